@@ -1,0 +1,9 @@
+//! The lines that a run puts when it is refused.
+#![tactic(auto)]
+
+mod fault;
+
+pub use fault::{Fault, fault_text};
+
+#[cfg(test)]
+mod tests;

@@ -1,0 +1,247 @@
+-- What each promise of a run takes from the table of statuses.
+use Rattle.std.proofs.Common.{◌≡◌, ℕ, ◌<◌, ◌≤◌, List, [], ◌∷◌, ◌++◌, length, Option, Some, None, MatchOption, Contains, sym, subst, ap, ◌∙◌, ◌⊎◌, inl, inr, refl, arith, length-append}
+use Rattle.std.specs.Prelude.{◌==◌, if◌then◌else◌}
+use Rattle.cs_io.specs.Sinks.{appended}
+use Rattle.cs_io.specs.Stores.{StoreState, Files, FileHas, FailsToWrite}
+use Rattle.cs_report.specs.declared.fault.Fault.TheVariants.{NotBuilt as NothingBuilt}
+use Rattle.cs_report.specs.FaultLines.{fault_line}
+use Rattle.cs_words.specs.declared.command.Command.{Command}
+use Rattle.cs_words.specs.declared.command.Command.TheVariants.{Slow}
+use Rattle.cs_words.specs.declared.command.SlowWords.{SlowWords}
+use Rattle.cs_words.specs.Commands.{command_of}
+use Rattle.cs_run.specs.declared.status.Status.{Status}
+use Rattle.cs_run.specs.declared.status.Status.TheVariants.{Done, NoMemory, Usage, ReadFault, WriteFault, NotBuilt}
+use Rattle.cs_run.specs.declared.reply.Reply.{Reply}
+use Rattle.cs_run.specs.declared.reply.NewFile.{NewFile}
+use Rattle.cs_run.specs.Inputs.{most_bytes}
+use Rattle.cs_run.specs.Replies.{refusal}
+use Rattle.cs_run.specs.Slow.{AnswersSlow, AnswersBytes, written, done}
+use Rattle.cs_run.specs.Statuses.{code_of}
+use Rattle.cs_run.specs.Outcomes.{World, AnswersFiles, after_writes, StopsAtWrite, StopsPutting, Puts, PutsSome, PutsText, status_unput, read_names, Finished, CouldNotWrite, Ran, write_names}
+use Rattle.cs_run.specs.Promises.{file_in, OthersStay, HasInput, IsNotBuilt, IsBuilt, Builds, HasWritten, CouldNotWriteOut, RefusedInput, HasNoFault}
+use Rattle.cs_run.proofs.FileLemmas.{has_weaker, has_at, others_after, others_after_failure, puts_nothing}
+
+-- ---- a status is known by its number
+
+status_at : ℕ → Status
+status_at n =
+    if n == 0 then Done else (if n == 1 then NoMemory else (if n == 2 then Usage else (if n == 3 then ReadFault else (if n == 4 then WriteFault else NotBuilt))))
+
+status_at-code_of : (s : Status) → status_at (code_of s) ≡ s
+unfolding status_at
+status_at-code_of Done = refl
+status_at-code_of NoMemory = refl
+status_at-code_of Usage = refl
+status_at-code_of ReadFault = refl
+status_at-code_of WriteFault = refl
+status_at-code_of NotBuilt = refl
+
+pub same_status : (s t : Status) → code_of s ≡ code_of t → s ≡ t
+same_status s t same = sym (status_at-code_of s) ∙ ap status_at same ∙ status_at-code_of t
+
+-- ---- what a reply of `slow` says of its file
+
+-- a reply that is done writes the netlist that is built
+record WritesNetlist (slow : SlowWords) (files : Option Files) (reply : Reply) : Type 0 where
+  netlist : List ℕ
+  bytes : List ℕ
+  input : FileHas files slow.input (λ found. found ≡ bytes)
+  built : IsBuilt slow.contexts bytes netlist
+  is : reply ≡ done slow netlist
+
+bytes_done : (slow : SlowWords) (files : Option Files) (bytes : List ℕ) (reply : Reply) → FileHas files slow.input (λ found. found ≡ bytes) → length bytes ≤ most_bytes →
+    AnswersBytes slow bytes reply → reply.status ≡ Done → WritesNetlist slow files reply
+bytes_done slow files bytes reply has fits answers to =
+    elim (written slow.contexts bytes) as (λ found. written slow.contexts bytes ≡ found → MatchOption found (reply ≡ refusal NotBuilt (fault_line NothingBuilt)) (λ netlist. reply ≡ done slow netlist) → WritesNetlist slow files reply) [
+      | None ↦ λ is refuses. let other : reply.status ≡ NotBuilt = ap (λ (r : Reply). r.status) refuses in absurd (cc)
+      | Some netlist ↦ λ is does. record { netlist = netlist; bytes = bytes; input = has; built = record { fits = fits; is = is }; is = does }
+    ] refl answers
+
+reply_done : (slow : SlowWords) (files : Option Files) (reply : Reply) → AnswersSlow slow files reply → reply.status ≡ Done → WritesNetlist slow files reply
+reply_done slow files reply (inl (long, refuses)) to = let other : reply.status ≡ NotBuilt = ap (λ (r : Reply). r.status) refuses in absurd (cc)
+reply_done slow files reply (inr (bytes, has, fits, answers)) to = bytes_done slow files bytes reply has fits answers to
+
+-- a reply that is not built refuses a file for which no netlist is built
+record RefusesFile (slow : SlowWords) (files : Option Files) (reply : Reply) : Type 0 where
+  input : FileHas files slow.input (IsNotBuilt slow.contexts)
+  is : reply ≡ refusal NotBuilt (fault_line NothingBuilt)
+
+bytes_refused : (slow : SlowWords) (files : Option Files) (bytes : List ℕ) (reply : Reply) → FileHas files slow.input (λ found. found ≡ bytes) →
+    AnswersBytes slow bytes reply → reply.status ≡ NotBuilt → RefusesFile slow files reply
+bytes_refused slow files bytes reply has answers to =
+    elim (written slow.contexts bytes) as (λ found. written slow.contexts bytes ≡ found → MatchOption found (reply ≡ refusal NotBuilt (fault_line NothingBuilt)) (λ netlist. reply ≡ done slow netlist) → RefusesFile slow files reply) [
+      | None ↦ λ is refuses. record { input = has_weaker files slow.input (λ found. found ≡ bytes) (IsNotBuilt slow.contexts) (λ found same. inr (ap (written slow.contexts) same ∙ is)) has; is = refuses }
+      | Some netlist ↦ λ is does. let other : reply.status ≡ Done = ap (λ (r : Reply). r.status) does in absurd (cc)
+    ] refl answers
+
+reply_refused : (slow : SlowWords) (files : Option Files) (reply : Reply) → AnswersSlow slow files reply → reply.status ≡ NotBuilt → RefusesFile slow files reply
+reply_refused slow files reply (inl (long, refuses)) to =
+    record { input = has_weaker files slow.input (λ bytes. most_bytes < length bytes) (IsNotBuilt slow.contexts) (λ bytes above. inl above) long; is = refuses }
+reply_refused slow files reply (inr (bytes, has, fits, answers)) to = bytes_refused slow files bytes reply has answers to
+
+-- ---- status 0
+
+text_put : (old new : World) (reply : Reply) → reply.status ≡ Done → reply.text ≡ [] → PutsText reply old.sink new.sink Done → new.sink ≡ old.sink
+text_put old new reply to empty (inl (same, puts)) =
+    puts_nothing old.sink new.sink (inl (subst (λ text. new.sink ≡ record old.sink { written = appended old.sink.written text }) empty puts))
+text_put old new reply to empty (inr (other, stops)) = let unput : Done ≡ WriteFault = other ∙ ap status_unput to in absurd (cc)
+
+finished : (words : List (List ℕ)) (old new : World) (slow : SlowWords) (reply : Reply) → command_of words ≡ Some (Slow slow) → reply.status ≡ Done →
+    WritesNetlist slow old.store.files reply → PutsText reply old.sink new.sink Done →
+    new.store ≡ after_writes old.store reply.writes → HasWritten words old new
+finished words old new slow reply says to writes puts store = record {
+  slow = slow;
+  netlist = writes.netlist;
+  builds = record { says = says; bytes = writes.bytes; input = writes.input; built = writes.built };
+  store = store ∙ ap (λ (r : Reply). after_writes old.store r.writes) writes.is;
+  sink = text_put old new reply to (ap (λ (r : Reply). r.text) writes.is) puts;
+}
+
+of_finished : (words : List (List ℕ)) (old new : World) (command : Command) (reply : Reply) → command_of words ≡ Some command → AnswersFiles command old.store.files reply →
+    reply.status ≡ Done → PutsText reply old.sink new.sink Done → new.store ≡ after_writes old.store reply.writes → HasWritten words old new
+of_finished words old new (Slow slow) reply says answers to puts store =
+    finished words old new slow reply says to (reply_done slow old.store.files reply answers to) puts store
+
+pub at_done : (words : List (List ℕ)) (old new : World) → Finished words old new Done → HasWritten words old new
+at_done words old new f = of_finished words old new f.command f.reply f.says f.answers f.to f.sink f.store
+
+-- ---- status 4
+
+not_first : (old new : World) (slow : SlowWords) (netlist : List ℕ) → StopsAtWrite (done slow netlist).writes old new →
+    FailsToWrite old.store new.store slow.output netlist × (new.sink ≡ old.sink)
+not_first old new slow netlist (failed, inl (fails, is), puts) =
+    (fails, puts_nothing old.sink new.sink (subst (λ (file : NewFile). PutsSome old.sink new.sink file.fault_line) is puts))
+not_first old new slow netlist (failed, inr stops, puts) = absurd stops
+
+unwritten : (words : List (List ℕ)) (old new : World) (slow : SlowWords) (reply : Reply) → command_of words ≡ Some (Slow slow) →
+    WritesNetlist slow old.store.files reply →
+    StopsAtWrite reply.writes old new ⊎ ((new.store ≡ after_writes old.store reply.writes) × StopsPutting old.sink new.sink reply.text) →
+    CouldNotWriteOut words old new
+unwritten words old new slow reply says writes (inl stops) =
+    let both = not_first old new slow writes.netlist (subst (λ (r : Reply). StopsAtWrite r.writes old new) writes.is stops) in
+    record {
+      slow = slow;
+      netlist = writes.netlist;
+      builds = record { says = says; bytes = writes.bytes; input = writes.input; built = writes.built };
+      store = both.0;
+      sink = both.1;
+    }
+unwritten words old new slow reply says writes (inr (store, stops)) = absurd (stops.0 (ap (λ (r : Reply). r.text) writes.is))
+
+of_unwritten : (words : List (List ℕ)) (old new : World) (command : Command) (reply : Reply) → command_of words ≡ Some command →
+    AnswersFiles command old.store.files reply → reply.status ≡ Done →
+    StopsAtWrite reply.writes old new ⊎ ((new.store ≡ after_writes old.store reply.writes) × StopsPutting old.sink new.sink reply.text) →
+    CouldNotWriteOut words old new
+of_unwritten words old new (Slow slow) reply says answers to stops =
+    unwritten words old new slow reply says (reply_done slow old.store.files reply answers to) stops
+
+pub at_write_fault : (words : List (List ℕ)) (old new : World) → CouldNotWrite words old new → CouldNotWriteOut words old new
+at_write_fault words old new f = of_unwritten words old new f.command f.reply f.says f.answers f.to f.stops
+
+-- ---- status 99
+
+refused_text : (old new : World) (reply : Reply) → reply ≡ refusal NotBuilt (fault_line NothingBuilt) → PutsText reply old.sink new.sink NotBuilt →
+    PutsSome old.sink new.sink (fault_line NothingBuilt)
+refused_text old new reply is (inl (to, puts)) = inl (subst (λ (r : Reply). Puts old.sink new.sink r.text) is puts)
+refused_text old new reply is (inr (to, stops)) = inr (subst (λ (r : Reply). StopsPutting old.sink new.sink r.text) is stops)
+
+of_refused : (words : List (List ℕ)) (old new : World) (command : Command) (reply : Reply) → command_of words ≡ Some command → AnswersFiles command old.store.files reply →
+    reply.status ≡ NotBuilt → PutsText reply old.sink new.sink NotBuilt → new.store ≡ after_writes old.store reply.writes → RefusedInput words old new
+of_refused words old new (Slow slow) reply says answers to puts store =
+    let refuses = reply_refused slow old.store.files reply answers to in
+    record {
+      slow = slow;
+      says = says;
+      input = refuses.input;
+      store = store ∙ ap (λ (r : Reply). after_writes old.store r.writes) refuses.is;
+      sink = refused_text old new reply refuses.is puts;
+    }
+
+pub at_not_built : (words : List (List ℕ)) (old new : World) → Finished words old new NotBuilt → RefusedInput words old new
+at_not_built words old new f = of_refused words old new f.command f.reply f.says f.answers f.to f.sink f.store
+
+-- ---- one file of one command
+
+same_slow : (words : List (List ℕ)) (slow other : SlowWords) → command_of words ≡ Some (Slow slow) → command_of words ≡ Some (Slow other) → slow ≡ other
+same_slow words slow other is also = let both : Some (Slow slow) ≡ Some (Slow other) = sym is ∙ also in cc
+
+-- a netlist is written for the file that the words name
+built_here : (words : List (List ℕ)) (files : Option Files) (slow other : SlowWords) (bytes netlist : List ℕ) → HasInput words files slow bytes → Builds words files other netlist →
+    IsBuilt slow.contexts bytes netlist
+built_here words files slow other bytes netlist input builds =
+    let same : other ≡ slow = same_slow words other slow builds.says input.says in
+    let read : builds.bytes ≡ bytes =
+    sym (has_at files slow.input bytes (λ found. found ≡ builds.bytes) input.input (subst (λ (s : SlowWords). FileHas files s.input (λ found. found ≡ builds.bytes)) same builds.input)) in
+    subst (λ b. IsBuilt slow.contexts b netlist) read (subst (λ (s : SlowWords). IsBuilt s.contexts builds.bytes netlist) same builds.built)
+
+refused_here : (words : List (List ℕ)) (files : Option Files) (slow other : SlowWords) (bytes : List ℕ) → HasInput words files slow bytes → command_of words ≡ Some (Slow other) →
+    FileHas files other.input (IsNotBuilt other.contexts) → IsNotBuilt slow.contexts bytes
+refused_here words files slow other bytes input says refused =
+    let same : other ≡ slow = same_slow words other slow says input.says in
+    has_at files slow.input bytes (IsNotBuilt slow.contexts) input.input (subst (λ (s : SlowWords). FileHas files s.input (IsNotBuilt s.contexts)) same refused)
+
+never_both : (contexts : ℕ) (bytes netlist : List ℕ) → IsBuilt contexts bytes netlist → IsNotBuilt contexts bytes → ⊥
+never_both contexts bytes netlist built (inl long) = let fits = built.fits in omega arith
+never_both contexts bytes netlist built (inr none) = let is = built.is in cc
+
+-- ---- exactly where, and completeness
+
+pub not_built : (words : List (List ℕ)) (old new : World) (s : Status) → Ran words old new s →
+    (slow : SlowWords) (bytes : List ℕ) → HasInput words old.store.files slow bytes → IsNotBuilt slow.contexts bytes →
+    (s ≡ NotBuilt) ⊎ ((s ≡ NoMemory) ⊎ (s ≡ ReadFault))
+not_built words old new Done ran slow bytes input not =
+    let did = at_done words old new ran in
+    absurd (never_both slow.contexts bytes did.netlist (built_here words old.store.files slow did.slow bytes did.netlist input did.builds) not)
+not_built words old new NoMemory ran slow bytes input not = inr (inl refl)
+not_built words old new Usage ran slow bytes input not = let none = ran.none in let some = input.says in absurd (cc)
+not_built words old new ReadFault ran slow bytes input not = inr (inr refl)
+not_built words old new WriteFault ran slow bytes input not =
+    let did = at_write_fault words old new ran in
+    absurd (never_both slow.contexts bytes did.netlist (built_here words old.store.files slow did.slow bytes did.netlist input did.builds) not)
+not_built words old new NotBuilt ran slow bytes input not = inl refl
+
+grown : (names : List (List ℕ)) (name : List ℕ) → names ++ name ∷ [] ≡ names → ⊥
+grown names name same = let longer = ap length same in omega (arith, longer, length-append names (name ∷ []))
+
+pub complete : (words : List (List ℕ)) (old new : World) (s : Status) → Ran words old new s →
+    (slow : SlowWords) (bytes netlist : List ℕ) → HasInput words old.store.files slow bytes → IsBuilt slow.contexts bytes netlist → HasNoFault old new →
+    (s ≡ Done) ⊎ (s ≡ NoMemory)
+complete words old new Done ran slow bytes netlist input built no_fault = inl refl
+complete words old new NoMemory ran slow bytes netlist input built no_fault = inr refl
+complete words old new Usage ran slow bytes netlist input built no_fault = let none = ran.none in let some = input.says in absurd (cc)
+complete words old new ReadFault ran slow bytes netlist input built no_fault =
+    absurd (grown old.store.failed ran.name (sym (ap (λ (s : StoreState). s.failed) ran.store) ∙ no_fault.reads))
+complete words old new WriteFault ran slow bytes netlist input built no_fault =
+    let did = at_write_fault words old new ran in absurd (no_fault.writes did.store.faults)
+complete words old new NotBuilt ran slow bytes netlist input built no_fault =
+    let did = at_not_built words old new ran in
+    absurd (never_both slow.contexts bytes netlist built (refused_here words old.store.files slow did.slow bytes input did.says did.input))
+
+pub usage : (words : List (List ℕ)) (old new : World) (s : Status) → Ran words old new s → command_of words ≡ None → (s ≡ Usage) ⊎ (s ≡ NoMemory)
+usage words old new Done ran none = let some = ran.says in absurd (cc)
+usage words old new NoMemory ran none = inr refl
+usage words old new Usage ran none = inl refl
+usage words old new ReadFault ran none = absurd (no_names (read_names words) ran.name (rw none refl) ran.among)
+  where
+    no_names : (names : List (List ℕ)) (name : List ℕ) → names ≡ [] → Contains names name → ⊥
+    no_names names name empty (index, below, is) = let short = ap length empty in omega arith
+usage words old new WriteFault ran none = let some = ran.says in absurd (cc)
+usage words old new NotBuilt ran none = let some = ran.says in absurd (cc)
+
+-- ---- other files
+
+written_name : (words : List (List ℕ)) (slow : SlowWords) → command_of words ≡ Some (Slow slow) → Contains (write_names words) slow.output
+written_name words slow says = rw says (0, omega arith, refl)
+
+pub others : (words : List (List ℕ)) (old new : World) (s : Status) → Ran words old new s → OthersStay (write_names words) old.store.files new.store.files
+others words old new Done ran = λ other outside.
+    let did = at_done words old new ran in
+    ap (λ (s : StoreState). file_in s.files other) did.store
+    ∙ others_after (write_names words) old.store.files did.slow.output did.netlist (written_name words did.slow did.builds.says) other outside
+others words old new NoMemory ran = λ other outside. ap (λ files. file_in files other) ran.store.files
+others words old new Usage ran = λ other outside. ap (λ (s : StoreState). file_in s.files other) ran.store
+others words old new ReadFault ran = λ other outside. ap (λ (s : StoreState). file_in s.files other) ran.store
+others words old new WriteFault ran =
+    let did = at_write_fault words old new ran in
+    others_after_failure (write_names words) old.store new.store did.slow.output did.netlist (written_name words did.slow did.builds.says) did.store
+others words old new NotBuilt ran = λ other outside. let did = at_not_built words old new ran in ap (λ (s : StoreState). file_in s.files other) did.store

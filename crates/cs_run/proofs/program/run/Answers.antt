@@ -1,0 +1,84 @@
+use Rattle.std.proofs.Common.{◌≡◌, ℕ, List, [], ◌∷◌, Contains, ◌⊎◌, inl, inr, refl, sym, ap, subst, ◌∙◌, arith}
+use Rattle.cs_words.specs.Commands.{texts}
+use Rattle.cs_run.specs.declared.status.Status.{Status}
+use Rattle.cs_run.specs.declared.status.Status.TheVariants.{Done, NoMemory, Usage, ReadFault, WriteFault, NotBuilt}
+use Rattle.cs_run.specs.Statuses.{code_of}
+use Rattle.cs_run.specs.Outcomes.{World, world, Ran}
+use Rattle.cs_run.proofs.PromiseLemmas.{same_status, at_done, at_write_fault, at_not_built, not_built, complete, usage, others}
+use Rattle.cs_run.proofs.program.run.Goals as goal
+
+is_listed : (s : Status) → Contains (0 ∷ 1 ∷ 2 ∷ 3 ∷ 4 ∷ 99 ∷ []) (code_of s)
+is_listed Done = (0, omega arith, refl)
+is_listed NoMemory = (1, omega arith, refl)
+is_listed Usage = (2, omega arith, refl)
+is_listed ReadFault = (3, omega arith, refl)
+is_listed WriteFault = (4, omega arith, refl)
+is_listed NotBuilt = (5, omega arith, refl)
+
+-- the row of the status that the run's number is that of
+row : (words : List (List ℕ)) (old new : World) (s t : Status) (result : ℕ) →
+    result ≡ code_of s → Ran words old new s → result ≡ code_of t → Ran words old new t
+row words old new s t result is ran asked = subst (λ u. Ran words old new u) (same_status s t (sym is ∙ asked)) ran
+
+one_of : (s t u : Status) (result : ℕ) → result ≡ code_of s → (s ≡ t) ⊎ (s ≡ u) → (result ≡ code_of t) ⊎ (result ≡ code_of u)
+one_of s t u result is (inl same) = inl (is ∙ ap code_of same)
+one_of s t u result is (inr same) = inr (is ∙ ap code_of same)
+
+one_of_three : (s t u v : Status) (result : ℕ) → result ≡ code_of s → (s ≡ t) ⊎ ((s ≡ u) ⊎ (s ≡ v)) → (result ≡ code_of t) ⊎ ((result ≡ code_of u) ⊎ (result ≡ code_of v))
+one_of_three s t u v result is (inl same) = inl (is ∙ ap code_of same)
+one_of_three s t u v result is (inr others) = inr (one_of s u v result is others)
+
+pub returns-clause-statuses : goal.returns-clause-statuses
+returns-clause-statuses g c = subst (λ n. Contains (0 ∷ 1 ∷ 2 ∷ 3 ∷ 4 ∷ 99 ∷ []) n) (sym c.code.ensures) (is_listed c.perform-status.result)
+
+pub returns-clause-done : goal.returns-clause-done
+returns-clause-done g c = λ asked.
+    at_done (texts c.args.words.now) (world (g.S.Store.state c.args.store.now) (g.O.Sink.state c.args.out.now)) (world (g.S.Store.state c.perform-status.new.store) (g.O.Sink.state c.perform-status.new.out))
+    (row (texts c.args.words.now) (world (g.S.Store.state c.args.store.now) (g.O.Sink.state c.args.out.now))
+    (world (g.S.Store.state c.perform-status.new.store) (g.O.Sink.state c.perform-status.new.out)) c.perform-status.result Done c.code.result c.code.ensures c.perform-status.ensures asked)
+
+pub returns-clause-no_memory : goal.returns-clause-no_memory
+returns-clause-no_memory g c = λ asked.
+    row (texts c.args.words.now) (world (g.S.Store.state c.args.store.now) (g.O.Sink.state c.args.out.now))
+    (world (g.S.Store.state c.perform-status.new.store) (g.O.Sink.state c.perform-status.new.out)) c.perform-status.result NoMemory c.code.result c.code.ensures c.perform-status.ensures asked
+
+pub returns-clause-usage_only : goal.returns-clause-usage_only
+returns-clause-usage_only g c = λ asked.
+    row (texts c.args.words.now) (world (g.S.Store.state c.args.store.now) (g.O.Sink.state c.args.out.now))
+    (world (g.S.Store.state c.perform-status.new.store) (g.O.Sink.state c.perform-status.new.out)) c.perform-status.result Usage c.code.result c.code.ensures c.perform-status.ensures asked
+
+pub returns-clause-read_fault : goal.returns-clause-read_fault
+returns-clause-read_fault g c = λ asked.
+    row (texts c.args.words.now) (world (g.S.Store.state c.args.store.now) (g.O.Sink.state c.args.out.now))
+    (world (g.S.Store.state c.perform-status.new.store) (g.O.Sink.state c.perform-status.new.out)) c.perform-status.result ReadFault c.code.result c.code.ensures c.perform-status.ensures asked
+
+pub returns-clause-write_fault : goal.returns-clause-write_fault
+returns-clause-write_fault g c = λ asked.
+    at_write_fault (texts c.args.words.now) (world (g.S.Store.state c.args.store.now) (g.O.Sink.state c.args.out.now)) (world (g.S.Store.state c.perform-status.new.store) (g.O.Sink.state c.perform-status.new.out))
+    (row (texts c.args.words.now) (world (g.S.Store.state c.args.store.now) (g.O.Sink.state c.args.out.now))
+    (world (g.S.Store.state c.perform-status.new.store) (g.O.Sink.state c.perform-status.new.out)) c.perform-status.result WriteFault c.code.result c.code.ensures c.perform-status.ensures asked)
+
+pub returns-clause-not_built_only : goal.returns-clause-not_built_only
+returns-clause-not_built_only g c = λ asked.
+    at_not_built (texts c.args.words.now) (world (g.S.Store.state c.args.store.now) (g.O.Sink.state c.args.out.now)) (world (g.S.Store.state c.perform-status.new.store) (g.O.Sink.state c.perform-status.new.out))
+    (row (texts c.args.words.now) (world (g.S.Store.state c.args.store.now) (g.O.Sink.state c.args.out.now))
+    (world (g.S.Store.state c.perform-status.new.store) (g.O.Sink.state c.perform-status.new.out)) c.perform-status.result NotBuilt c.code.result c.code.ensures c.perform-status.ensures asked)
+
+pub returns-clause-usage : goal.returns-clause-usage
+returns-clause-usage g c = λ none.
+    one_of c.perform-status.result Usage NoMemory c.code.result c.code.ensures
+    (usage (texts c.args.words.now) (world (g.S.Store.state c.args.store.now) (g.O.Sink.state c.args.out.now)) (world (g.S.Store.state c.perform-status.new.store) (g.O.Sink.state c.perform-status.new.out)) c.perform-status.result c.perform-status.ensures none)
+
+pub returns-clause-not_built : goal.returns-clause-not_built
+returns-clause-not_built g c = λ slow bytes input not.
+    one_of_three c.perform-status.result NotBuilt NoMemory ReadFault c.code.result c.code.ensures
+    (not_built (texts c.args.words.now) (world (g.S.Store.state c.args.store.now) (g.O.Sink.state c.args.out.now)) (world (g.S.Store.state c.perform-status.new.store) (g.O.Sink.state c.perform-status.new.out)) c.perform-status.result c.perform-status.ensures slow bytes input not)
+
+pub returns-clause-complete : goal.returns-clause-complete
+returns-clause-complete g c = λ slow bytes netlist input built no_fault.
+    one_of c.perform-status.result Done NoMemory c.code.result c.code.ensures
+    (complete (texts c.args.words.now) (world (g.S.Store.state c.args.store.now) (g.O.Sink.state c.args.out.now)) (world (g.S.Store.state c.perform-status.new.store) (g.O.Sink.state c.perform-status.new.out)) c.perform-status.result c.perform-status.ensures slow bytes netlist input built no_fault)
+
+pub returns-clause-others : goal.returns-clause-others
+returns-clause-others g c =
+    others (texts c.args.words.now) (world (g.S.Store.state c.args.store.now) (g.O.Sink.state c.args.out.now)) (world (g.S.Store.state c.perform-status.new.store) (g.O.Sink.state c.perform-status.new.out)) c.perform-status.result c.perform-status.ensures

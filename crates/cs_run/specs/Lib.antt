@@ -1,0 +1,6 @@
+pub mod Statuses
+pub mod Replies
+pub mod Inputs
+pub mod Slow
+pub mod Outcomes
+pub mod Promises

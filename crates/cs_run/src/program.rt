@@ -1,0 +1,105 @@
+// The top call.
+ghost use Rattle.std.specs.Prelude.{◌≡◌, ◌⊎◌, ℕ, List, [], ◌∷◌, Contains, None};
+ghost use Rattle.cs_words.specs.declared.command.SlowWords.{SlowWords};
+ghost use Rattle.cs_words.specs.Commands.{texts, command_of};
+ghost use Rattle.cs_run.specs.Outcomes.{world, HasOutcome, HasOutcomeOf, Ran, RanOutOfMemory, RefusedWords, CouldNotRead, write_names};
+ghost use Rattle.cs_run.specs.Promises.{OthersStay, HasInput, IsNotBuilt, IsBuilt, HasWritten, CouldNotWriteOut, RefusedInput, HasNoFault};
+
+use crate::finish::carry_out;
+use crate::inputs::{Stop, refuse};
+use crate::reply::Reply;
+use crate::slow::answer_slow;
+use crate::status::Status;
+use cs_base::Text;
+use cs_io::{Sink, Store};
+use cs_report::Fault;
+use cs_words::{Command, WordError, read_words};
+use std::alloc::Global;
+
+/// Does what the words after the program's name say, and answers the exit status: 0 done, 1 want of memory,
+/// 2 usage, 3 read fault, 4 write fault, 99 not built. Every file but those that the words name to be written
+/// stays, whatever the status.
+pub fn run<R: AllocGlobal, S: Store, O: Sink>(
+    rt: &R,
+    words: &[String],
+    store: &mut S,
+    out: &mut O,
+) -> u8
+    ensures statuses { Contains (0 ∷ 1 ∷ 2 ∷ 3 ∷ 4 ∷ 99 ∷ []) result }
+
+    // What each status leaves in the store and the sink, and when it comes.
+    ensures done { result ≡ 0 → HasWritten (texts words.now)
+        (world (S.state store.old) (O.state out.old)) (world (S.state store.new) (O.state out.new)) }
+    ensures no_memory { result ≡ 1 → RanOutOfMemory
+        (world (S.state store.old) (O.state out.old)) (world (S.state store.new) (O.state out.new)) }
+    ensures usage_only { result ≡ 2 → RefusedWords (texts words.now)
+        (world (S.state store.old) (O.state out.old)) (world (S.state store.new) (O.state out.new)) }
+    ensures read_fault { result ≡ 3 → CouldNotRead (texts words.now)
+        (world (S.state store.old) (O.state out.old)) (world (S.state store.new) (O.state out.new)) }
+    ensures write_fault { result ≡ 4 → CouldNotWriteOut (texts words.now)
+        (world (S.state store.old) (O.state out.old)) (world (S.state store.new) (O.state out.new)) }
+    ensures not_built_only { result ≡ 99 → RefusedInput (texts words.now)
+        (world (S.state store.old) (O.state out.old)) (world (S.state store.new) (O.state out.new)) }
+
+    // Words that say no command are refused, but for want of memory.
+    ensures usage { command_of (texts words.now) ≡ None → (result ≡ 2) ⊎ (result ≡ 1) }
+
+    // A file for which no netlist is built is refused, but for want of memory and a failed read.
+    ensures not_built { (slow : SlowWords) (bytes : List ℕ)
+        → HasInput (texts words.now) (S.state store.old).files slow bytes → IsNotBuilt slow.contexts bytes
+        → (result ≡ 99) ⊎ (result ≡ 1) ⊎ (result ≡ 3) }
+
+    // Where a netlist is built and no call fails, the run is done, but for want of memory.
+    ensures complete { (slow : SlowWords) (bytes netlist : List ℕ)
+        → HasInput (texts words.now) (S.state store.old).files slow bytes → IsBuilt slow.contexts bytes netlist
+        → HasNoFault (world (S.state store.old) (O.state out.old)) (world (S.state store.new) (O.state out.new))
+        → (result ≡ 0) ⊎ (result ≡ 1) }
+
+    // All other files stay.
+    ensures others { OthersStay (write_names (texts words.now)) (S.state store.old).files (S.state store.new).files }
+{
+    let status = perform(rt, words, store, out);
+    status.code()
+}
+
+fn perform<R: AllocGlobal, S: Store, O: Sink>(
+    rt: &R,
+    words: &[String],
+    store: &mut S,
+    out: &mut O,
+) -> Status
+    ensures { Ran (texts words.now) (world (S.state store.old) (O.state out.old)) (world (S.state store.new) (O.state out.new)) result }
+{
+    match answer(rt, words, store) {
+        Ok(reply) => carry_out(&reply, store, out),
+        Err(Stop::Answered(reply)) => carry_out(&reply, store, out),
+        Err(Stop::OutOfMemory) => {
+            let _ = out.put(b"out of memory\n");
+            Status::NoMemory
+        }
+    }
+}
+
+// Reads the words and the files, and says what is to be written.
+fn answer<R: AllocGlobal, S: Store>(rt: &R, words: &[String], store: &mut S) -> Result<Reply, Stop>
+    ensures { HasOutcomeOf (texts words.now) (S.state store.old) (S.state store.new) result }
+{
+    let alloc = rt.alloc();
+    match read_words(alloc, words) {
+        Ok(command) => answer_command(alloc, &command, store),
+        Err(WordError::BadWords) => {
+            let command = Text::from_str(alloc, "slow")?;
+            let reply = refuse(alloc, Status::Usage, &Fault::WordsOf(command))?;
+            Err(Stop::Answered(reply))
+        }
+        Err(WordError::NoMemory) => Err(Stop::OutOfMemory),
+    }
+}
+
+fn answer_command<S: Store>(alloc: Global, command: &Command, store: &mut S) -> Result<Reply, Stop>
+    ensures { HasOutcome command.now (S.state store.old) (S.state store.new) result }
+{
+    match command {
+        Command::Slow(words) => answer_slow(alloc, words, store),
+    }
+}

@@ -1,0 +1,53 @@
+// The command `slow`.
+ghost use Rattle.std.specs.Prelude.{◌≡◌, IfOk, option_map};
+ghost use Rattle.cs_run.specs.Slow.{AnswersBytes, written};
+ghost use Rattle.cs_run.specs.Outcomes.{HasOutcome};
+ghost use Rattle.cs_words.specs.declared.command.Command.TheVariants.{Slow};
+
+use crate::inputs::{Stop, read_input, refuse};
+use crate::reply::{NewFile, Reply};
+use crate::status::Status;
+use cs_base::{Contexts, Sequence};
+use cs_io::Store;
+use cs_report::Fault;
+use cs_words::SlowWords;
+use std::alloc::{AllocError, Global};
+
+/// Reads the file of `slow`, and says what is to be written.
+pub fn answer_slow<S: Store>(alloc: Global, words: &SlowWords, store: &mut S) -> Result<Reply, Stop>
+    ensures { HasOutcome (Slow words.now) (S.state store.old) (S.state store.new) result }
+{
+    let bytes = read_input(alloc, &words.input, store)?;
+    Ok(answer_bytes(alloc, words, &bytes)?)
+}
+
+fn answer_bytes(alloc: Global, words: &SlowWords, bytes: &[u8]) -> Result<Reply, AllocError>
+    ensures { IfOk result (AnswersBytes words.now bytes.now) }
+{
+    let Some(netlist) = write_netlist(alloc, words.contexts, bytes)? else {
+        return refuse(alloc, Status::NotBuilt, &Fault::NotBuilt);
+    };
+    let mut writes = Sequence::new(alloc);
+    writes.push(NewFile {
+        name: words.output.copy(alloc)?,
+        bytes: Sequence::from_vec(netlist),
+        fault_line: Sequence::new(alloc),
+    })?;
+    Ok(Reply {
+        status: Status::Done,
+        writes,
+        text: Sequence::new(alloc),
+    })
+}
+
+// The bytes of OUT for the bytes of IN, and None where they have no form that is built.
+#[tactic(auto, unfolding(crate::specs::Slow::written))]
+fn write_netlist(
+    alloc: Global,
+    contexts: Contexts,
+    bytes: &[u8],
+) -> Result<Option<Vec<u8>>, AllocError>
+    ensures { IfOk result (λ netlist. option_map (λ v. v.items) netlist ≡ written contexts bytes.now) }
+{
+    Ok(None)
+}
