@@ -1,5 +1,5 @@
 -- Derivations by reverse unit propagation (Goldberg and Novikov 2003; Van Gelder 2008).
-use Rattle.std.specs.Prelude.{◌≡◌, not, ◌⊎◌, List, [], ◌∷◌, ◌++◌, map, Contains}
+use Rattle.std.specs.Prelude.{◌≡◌, ℕ, not, ◌⊎◌, List, [], ◌∷◌, ◌++◌, map, Contains}
 use Rattle.cs_base.specs.declared.formula.Lit.{Lit}
 use Rattle.cs_base.specs.declared.formula.Clause.{Clause}
 use Rattle.cs_base.specs.declared.formula.Formula.{Formula}

@@ -1,5 +1,5 @@
 -- Formulas in conjunctive normal form: assignments, clauses that they make true, models.
-use Rattle.std.specs.Prelude.{ℕ, ◌-◌, ◌≤◌, Bool, false, not, if◌then◌else◌, IsTrue, List, get_or, All}
+use Rattle.std.specs.Prelude.{◌≡◌, ℕ, ◌-◌, ◌≤◌, ◌<◌, Bool, true, false, not, if◌then◌else◌, IsTrue, List, get_or, All}
 use Rattle.std.specs.List.{list_any, list_all}
 use Rattle.cs_base.specs.declared.formula.Lit.{Lit}
 use Rattle.cs_base.specs.declared.formula.Clause.{Clause}

@@ -1,0 +1,19 @@
+-- Lemmas on reading, printing and reading back.
+pub mod Depth
+pub mod Back
+pub mod Loops
+pub mod PrintingLemmas
+pub mod NoFloats
+pub mod Newline
+pub mod PlainData
+pub mod PlainDocument
+pub mod Utf8Lemmas
+pub mod ReadableLemmas
+pub mod Ordered
+pub mod Parsing
+pub mod Giving
+pub mod Views
+pub mod Escapes
+pub mod EntryLemmas
+pub mod ReadsBack
+pub mod OnLiterals

@@ -1,0 +1,28 @@
+//! Documents of netlists: what they hold, and how they are read from JSON and printed as it.
+#![tactic(auto)]
+
+mod cells;
+mod document;
+mod entries;
+mod error;
+mod keyed;
+mod laws;
+mod members;
+mod modules;
+mod places;
+mod ports;
+mod print;
+mod printing;
+mod read;
+mod signals;
+
+pub use document::{
+    CellDecl, Datum, Direction, Document, Entry, Module, NetDecl, PinDecl, Place, PortDecl,
+};
+pub use error::DocError;
+pub use laws::reads_back;
+pub use print::print_document;
+pub use read::read_document;
+
+#[cfg(test)]
+mod tests;
