@@ -1,0 +1,13 @@
+pub mod SystemLemmas
+pub mod LabelLemmas
+pub mod RangeLemmas
+pub mod PassLemmas
+pub mod Pigeons
+pub mod ClimbLemmas
+pub mod LoopLemmas
+pub mod SettleLemmas
+pub mod SolveLemmas
+pub mod StepLemmas
+pub mod FloorLemmas
+pub mod DecideLemmas
+pub mod LatticeLemmas

@@ -1,0 +1,5 @@
+pub mod Floors
+pub mod Labels
+pub mod Ranges
+pub mod Steps
+pub mod Systems
