@@ -1,0 +1,13 @@
+pub mod Digits
+pub mod Pins
+pub mod Netlist
+pub mod Drivers
+pub mod Conditions
+pub mod PinBits
+pub mod Build
+pub mod Accept
+pub mod Invariant
+pub mod Trace
+pub mod Contexts
+pub mod Isolates
+pub mod Refusal

@@ -1,0 +1,18 @@
+// Why a module is no netlist: one function for each condition, in a file for each subject.
+mod classes;
+mod clocks;
+mod constants;
+mod drivers;
+mod ports;
+mod starts;
+mod top;
+
+pub(crate) use classes::{class_at, is_scope};
+pub(crate) use clocks::{
+    ClockBit, clock_as_data, clock_bits, clock_not_input, first_clock, holds_bit, mixed_edges,
+    two_clocks,
+};
+pub(crate) use constants::{const_z, is_output, name_at};
+pub(crate) use drivers::{driven_numbers, input_numbers, numbers_in, two_drivers};
+pub(crate) use ports::{inout, reserved};
+pub(crate) use starts::two_starts;
