@@ -1,5 +1,5 @@
 -- What is told of files, and which of them a write changes.
-use Rattle.std.proofs.Common.{◌≡◌, ℕ, List, [], Option, Some, None, false, cond, Contains, sym, subst, ap, ◌∙◌, inl, inr, refl}
+use Rattle.std.proofs.Common.{◌≡◌, ℕ, List, [], Option, Some, None, true, false, cond, Contains, sym, subst, ap, ◌∙◌, inl, inr, refl}
 use Rattle.std.proofs.lemmas.List.{append-nil}
 use Rattle.std.specs.Prelude.{IsSomeAnd}
 use Rattle.std.specs.Ordering.{nat_cmp, eq_by_cmp}
@@ -66,3 +66,14 @@ appended_nothing (Some told) = ap Some (append-nil told)
 pub puts_nothing : (old new : SinkState) → PutsSome old new [] → new ≡ old
 puts_nothing old new (inl puts) = puts ∙ ap (λ (written : Option (List ℕ)). let s : SinkState = record { written = written; faults = old.faults } in s) (appended_nothing old.written)
 puts_nothing old new (inr stops) = absurd (stops.0 refl)
+
+-- a file that is written is told
+tied_itself : (name : List ℕ) → eq_by_cmp (slice_cmp nat_cmp) name name ≡ true
+tied_itself name = sym (texts_ties name name) ∙ (bytes_eq-Decides name name).1 refl
+
+pub told_file : (files : Option Files) (name other bytes netlist : List ℕ) → file_in files other ≡ Some (Some bytes) →
+    file_in (with_file files name netlist) name ≡ Some (Some netlist)
+told_file None name other bytes netlist told = absurd (cc)
+told_file (Some files) name other bytes netlist told =
+    ap Some (get-insert nat_list_cmp_total files name netlist name
+    ∙ ap (λ b. cond b (Some netlist) (get files name)) (tied_itself name))

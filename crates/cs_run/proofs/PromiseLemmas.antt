@@ -2,7 +2,7 @@
 use Rattle.std.proofs.Common.{◌≡◌, ℕ, ◌<◌, ◌≤◌, List, [], ◌∷◌, ◌++◌, length, Option, Some, None, MatchOption, Contains, sym, subst, ap, ◌∙◌, ◌⊎◌, inl, inr, refl, arith, length-append}
 use Rattle.std.specs.Prelude.{◌==◌, if◌then◌else◌}
 use Rattle.cs_io.specs.Sinks.{appended}
-use Rattle.cs_io.specs.Stores.{StoreState, Files, FileHas, FailsToWrite}
+use Rattle.cs_io.specs.Stores.{with_file, StoreState, Files, FileHas, FailsToWrite}
 use Rattle.cs_report.specs.declared.fault.Fault.TheVariants.{NotBuilt as NothingBuilt}
 use Rattle.cs_report.specs.FaultLines.{fault_line}
 use Rattle.cs_words.specs.declared.command.Command.{Command}
@@ -13,13 +13,14 @@ use Rattle.cs_run.specs.declared.status.Status.{Status}
 use Rattle.cs_run.specs.declared.status.Status.TheVariants.{Done, NoMemory, Usage, ReadFault, WriteFault, NotBuilt}
 use Rattle.cs_run.specs.declared.reply.Reply.{Reply}
 use Rattle.cs_run.specs.declared.reply.NewFile.{NewFile}
+use Rattle.cs_run.specs.Bytes.{BytesIsolate}
 use Rattle.cs_run.specs.Inputs.{most_bytes}
 use Rattle.cs_run.specs.Replies.{refusal}
 use Rattle.cs_run.specs.Slow.{AnswersSlow, AnswersBytes, written, done}
 use Rattle.cs_run.specs.Statuses.{code_of}
 use Rattle.cs_run.specs.Outcomes.{World, AnswersFiles, after_writes, StopsAtWrite, StopsPutting, Puts, PutsSome, PutsText, status_unput, read_names, Finished, CouldNotWrite, Ran, write_names}
 use Rattle.cs_run.specs.Promises.{file_in, OthersStay, HasInput, IsNotBuilt, IsBuilt, Builds, HasWritten, CouldNotWriteOut, RefusedInput, HasNoFault}
-use Rattle.cs_run.proofs.FileLemmas.{has_weaker, has_at, others_after, others_after_failure, puts_nothing}
+use Rattle.cs_run.proofs.FileLemmas.{has_weaker, has_at, told_file, others_after, others_after_failure, puts_nothing}
 
 -- ---- a status is known by its number
 
@@ -47,14 +48,15 @@ record WritesNetlist (slow : SlowWords) (files : Option Files) (reply : Reply) :
   bytes : List ℕ
   input : FileHas files slow.input (λ found. found ≡ bytes)
   built : IsBuilt slow.contexts bytes netlist
+  isolates : BytesIsolate slow.contexts bytes netlist
   is : reply ≡ done slow netlist
 
 bytes_done : (slow : SlowWords) (files : Option Files) (bytes : List ℕ) (reply : Reply) → FileHas files slow.input (λ found. found ≡ bytes) → length bytes ≤ most_bytes →
     AnswersBytes slow bytes reply → reply.status ≡ Done → WritesNetlist slow files reply
 bytes_done slow files bytes reply has fits answers to =
-    elim (written slow.contexts bytes) as (λ found. written slow.contexts bytes ≡ found → MatchOption found (reply ≡ refusal NotBuilt (fault_line NothingBuilt)) (λ netlist. reply ≡ done slow netlist) → WritesNetlist slow files reply) [
+    elim (written slow.contexts bytes) as (λ found. written slow.contexts bytes ≡ found → MatchOption found (reply ≡ refusal NotBuilt (fault_line NothingBuilt)) (λ netlist. (reply ≡ done slow netlist) × BytesIsolate slow.contexts bytes netlist) → WritesNetlist slow files reply) [
       | None ↦ λ is refuses. let other : reply.status ≡ NotBuilt = ap (λ (r : Reply). r.status) refuses in absurd (cc)
-      | Some netlist ↦ λ is does. record { netlist = netlist; bytes = bytes; input = has; built = record { fits = fits; is = is }; is = does }
+      | Some netlist ↦ λ is does. record { netlist = netlist; bytes = bytes; input = has; built = record { fits = fits; is = is }; isolates = does.1; is = does.0 }
     ] refl answers
 
 reply_done : (slow : SlowWords) (files : Option Files) (reply : Reply) → AnswersSlow slow files reply → reply.status ≡ Done → WritesNetlist slow files reply
@@ -69,9 +71,9 @@ record RefusesFile (slow : SlowWords) (files : Option Files) (reply : Reply) : T
 bytes_refused : (slow : SlowWords) (files : Option Files) (bytes : List ℕ) (reply : Reply) → FileHas files slow.input (λ found. found ≡ bytes) →
     AnswersBytes slow bytes reply → reply.status ≡ NotBuilt → RefusesFile slow files reply
 bytes_refused slow files bytes reply has answers to =
-    elim (written slow.contexts bytes) as (λ found. written slow.contexts bytes ≡ found → MatchOption found (reply ≡ refusal NotBuilt (fault_line NothingBuilt)) (λ netlist. reply ≡ done slow netlist) → RefusesFile slow files reply) [
+    elim (written slow.contexts bytes) as (λ found. written slow.contexts bytes ≡ found → MatchOption found (reply ≡ refusal NotBuilt (fault_line NothingBuilt)) (λ netlist. (reply ≡ done slow netlist) × BytesIsolate slow.contexts bytes netlist) → RefusesFile slow files reply) [
       | None ↦ λ is refuses. record { input = has_weaker files slow.input (λ found. found ≡ bytes) (IsNotBuilt slow.contexts) (λ found same. inr (ap (written slow.contexts) same ∙ is)) has; is = refuses }
-      | Some netlist ↦ λ is does. let other : reply.status ≡ Done = ap (λ (r : Reply). r.status) does in absurd (cc)
+      | Some netlist ↦ λ is does. let other : reply.status ≡ Done = ap (λ (r : Reply). r.status) does.0 in absurd (cc)
     ] refl answers
 
 reply_refused : (slow : SlowWords) (files : Option Files) (reply : Reply) → AnswersSlow slow files reply → reply.status ≡ NotBuilt → RefusesFile slow files reply
@@ -92,7 +94,7 @@ finished : (words : List (List ℕ)) (old new : World) (slow : SlowWords) (reply
 finished words old new slow reply says to writes puts store = record {
   slow = slow;
   netlist = writes.netlist;
-  builds = record { says = says; bytes = writes.bytes; input = writes.input; built = writes.built };
+  builds = record { says = says; bytes = writes.bytes; input = writes.input; built = writes.built; isolates = writes.isolates };
   store = store ∙ ap (λ (r : Reply). after_writes old.store r.writes) writes.is;
   sink = text_put old new reply to (ap (λ (r : Reply). r.text) writes.is) puts;
 }
@@ -122,7 +124,7 @@ unwritten words old new slow reply says writes (inl stops) =
     record {
       slow = slow;
       netlist = writes.netlist;
-      builds = record { says = says; bytes = writes.bytes; input = writes.input; built = writes.built };
+      builds = record { says = says; bytes = writes.bytes; input = writes.input; built = writes.built; isolates = writes.isolates };
       store = both.0;
       sink = both.1;
     }
@@ -227,6 +229,38 @@ usage words old new ReadFault ran none = absurd (no_names (read_names words) ran
     no_names names name empty (index, below, is) = let short = ap length empty in omega arith
 usage words old new WriteFault ran none = let some = ran.says in absurd (cc)
 usage words old new NotBuilt ran none = let some = ran.says in absurd (cc)
+
+-- ---- what OUT holds
+
+-- the bytes that `slow` read are those that the store tells
+same_bytes : (words : List (List ℕ)) (files : Option Files) (slow other : SlowWords) (bytes netlist : List ℕ) → HasInput words files slow bytes → (builds : Builds words files other netlist) →
+    (other ≡ slow) × (builds.bytes ≡ bytes)
+same_bytes words files slow other bytes netlist input builds =
+    let same : other ≡ slow = same_slow words other slow builds.says input.says in
+    (same, sym (has_at files slow.input bytes (λ found. found ≡ builds.bytes) input.input (subst (λ (s : SlowWords). FileHas files s.input (λ found. found ≡ builds.bytes)) same builds.input)))
+
+pub output : (words : List (List ℕ)) (old new : World) → Ran words old new Done → (slow : SlowWords) (bytes : List ℕ) → HasInput words old.store.files slow bytes →
+    file_in new.store.files slow.output ≡ Some (written slow.contexts bytes)
+output words old new ran slow bytes input =
+    let did = at_done words old new ran in
+    let built = built_here words old.store.files slow did.slow bytes did.netlist input did.builds in
+    let same = (same_bytes words old.store.files slow did.slow bytes did.netlist input did.builds).0 in
+    ap (λ (s : StoreState). file_in s.files slow.output) did.store
+    ∙ ap (λ (s : SlowWords). file_in (with_file old.store.files s.output did.netlist) slow.output) same
+    ∙ told_file old.store.files slow.output slow.input bytes did.netlist input.input
+    ∙ ap Some (sym built.is)
+
+pub isolates : (words : List (List ℕ)) (old new : World) → Ran words old new Done → (slow : SlowWords) (bytes netlist : List ℕ) → HasInput words old.store.files slow bytes →
+    file_in new.store.files slow.output ≡ Some (Some netlist) → BytesIsolate slow.contexts bytes netlist
+isolates words old new ran slow bytes netlist input holds =
+    let did = at_done words old new ran in
+    let same = same_bytes words old.store.files slow did.slow bytes did.netlist input did.builds in
+    let built = built_here words old.store.files slow did.slow bytes did.netlist input did.builds in
+    let there : Some (Some did.netlist) ≡ Some (Some netlist) = ap Some (sym built.is) ∙ sym (output words old new ran slow bytes input) ∙ holds in
+    let one : did.netlist ≡ netlist = cc in
+    subst (λ n. BytesIsolate slow.contexts bytes n) one
+    (subst (λ b. BytesIsolate slow.contexts b did.netlist) same.1
+    (subst (λ (s : SlowWords). BytesIsolate s.contexts did.builds.bytes did.netlist) same.0 did.builds.isolates))
 
 -- ---- other files
 

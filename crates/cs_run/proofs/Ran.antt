@@ -7,6 +7,7 @@ use Rattle.cs_words.specs.declared.command.Command.{Command}
 use Rattle.cs_words.specs.declared.command.Command.TheVariants.{Slow}
 use Rattle.cs_words.specs.declared.command.SlowWords.{SlowWords}
 use Rattle.cs_words.specs.Commands.{command_of}
+use Rattle.cs_run.specs.Bytes.{BytesIsolate}
 use Rattle.cs_run.specs.declared.status.Status.{Status}
 use Rattle.cs_run.specs.declared.status.Status.TheVariants.{Done, Usage, ReadFault, WriteFault, NotBuilt}
 use Rattle.cs_run.specs.declared.reply.Reply.{Reply}
@@ -69,11 +70,11 @@ of_bytes : (words : List (List ℕ)) (slow : SlowWords) (old new : World) (bytes
     command_of words ≡ Some (Slow slow) → AnswersSlow slow old.store.files reply →
     AnswersBytes slow bytes reply → CarriesOut reply old new status → Ran words old new status
 of_bytes words slow old new bytes reply status is asked answers carried =
-    elim (written slow.contexts bytes) as (λ found. MatchOption found (reply ≡ refusal NotBuilt (fault_line NothingBuilt)) (λ netlist. reply ≡ done slow netlist) → Ran words old new status) [
+    elim (written slow.contexts bytes) as (λ found. MatchOption found (reply ≡ refusal NotBuilt (fault_line NothingBuilt)) (λ netlist. (reply ≡ done slow netlist) × BytesIsolate slow.contexts bytes netlist) → Ran words old new status) [
       | None ↦ λ refuses.
           of_refusal words (Slow slow) old new NotBuilt (fault_line NothingBuilt) status refl (λ row. row) is
           (subst (λ r. AnswersSlow slow old.store.files r) refuses asked) (subst (λ r. CarriesOut r old new status) refuses carried)
-      | Some netlist ↦ λ does. of_done words (Slow slow) old new reply status (ap (λ (r : Reply). r.status) does) is asked carried
+      | Some netlist ↦ λ does. of_done words (Slow slow) old new reply status (ap (λ (r : Reply). r.status) does.0) is asked carried
     ] answers
 
 of_slow : (words : List (List ℕ)) (slow : SlowWords) (old new : World) (reply : Reply) (status : Status) →

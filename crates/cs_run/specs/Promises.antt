@@ -9,6 +9,7 @@ use Rattle.cs_report.specs.FaultLines.{fault_line}
 use Rattle.cs_words.specs.declared.command.Command.TheVariants.{Slow}
 use Rattle.cs_words.specs.declared.command.SlowWords.{SlowWords}
 use Rattle.cs_words.specs.Commands.{command_of}
+use Rattle.cs_run.specs.Bytes.{BytesIsolate}
 use Rattle.cs_run.specs.Inputs.{most_bytes}
 use Rattle.cs_run.specs.Outcomes.{World, PutsSome}
 use Rattle.cs_run.specs.Slow.{written}
@@ -41,6 +42,7 @@ pub record Builds (words : List (List ℕ)) (files : Option Files) (slow : SlowW
   pub bytes : List ℕ
   pub input : FileHas files slow.input (λ found. found ≡ bytes)
   pub built : IsBuilt slow.contexts bytes netlist
+  pub isolates : BytesIsolate slow.contexts bytes netlist
 
 -- status 0: OUT holds the netlist, every other file is as before, and nothing was put
 pub record HasWritten (words : List (List ℕ)) (old new : World) : Type 0 where

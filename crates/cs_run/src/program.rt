@@ -1,9 +1,11 @@
 // The top call.
-ghost use Rattle.std.specs.Prelude.{◌≡◌, ◌⊎◌, ℕ, List, [], ◌∷◌, Contains, None};
+ghost use Rattle.std.specs.Prelude.{◌≡◌, ◌⊎◌, ℕ, List, [], ◌∷◌, Contains, Some, None};
 ghost use Rattle.cs_words.specs.declared.command.SlowWords.{SlowWords};
 ghost use Rattle.cs_words.specs.Commands.{texts, command_of};
 ghost use Rattle.cs_run.specs.Outcomes.{world, HasOutcome, HasOutcomeOf, Ran, RanOutOfMemory, RefusedWords, CouldNotRead, write_names};
-ghost use Rattle.cs_run.specs.Promises.{OthersStay, HasInput, IsNotBuilt, IsBuilt, HasWritten, CouldNotWriteOut, RefusedInput, HasNoFault};
+ghost use Rattle.cs_run.specs.Bytes.{BytesIsolate};
+ghost use Rattle.cs_run.specs.Slow.{written};
+ghost use Rattle.cs_run.specs.Promises.{file_in, OthersStay, HasInput, IsNotBuilt, IsBuilt, HasWritten, CouldNotWriteOut, RefusedInput, HasNoFault};
 
 use crate::finish::carry_out;
 use crate::inputs::{Stop, refuse};
@@ -40,6 +42,15 @@ pub fn run<R: AllocGlobal, S: Store, O: Sink>(
         (world (S.state store.old) (O.state out.old)) (world (S.state store.new) (O.state out.new)) }
     ensures not_built_only { result ≡ 99 → RefusedInput (texts words.now)
         (world (S.state store.old) (O.state out.old)) (world (S.state store.new) (O.state out.new)) }
+
+    // At status 0 OUT holds the written document, whose netlist isolates that of IN's bytes at entry.
+    ensures output { result ≡ 0 → (slow : SlowWords) (bytes : List ℕ)
+        → HasInput (texts words.now) (S.state store.old).files slow bytes
+        → file_in (S.state store.new).files slow.output ≡ Some (written slow.contexts bytes) }
+    ensures isolates { result ≡ 0 → (slow : SlowWords) (bytes netlist : List ℕ)
+        → HasInput (texts words.now) (S.state store.old).files slow bytes
+        → file_in (S.state store.new).files slow.output ≡ Some (Some netlist)
+        → BytesIsolate slow.contexts bytes netlist }
 
     // Words that say no command are refused, but for want of memory.
     ensures usage { command_of (texts words.now) ≡ None → (result ≡ 2) ⊎ (result ≡ 1) }

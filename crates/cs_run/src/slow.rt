@@ -1,6 +1,9 @@
 // The command `slow`.
-ghost use Rattle.std.specs.Prelude.{◌≡◌, IfOk, option_map};
-ghost use Rattle.cs_run.specs.Slow.{AnswersBytes, written};
+ghost use Rattle.std.specs.Prelude.{◌≡◌, IfOk, IfSome, MatchOption, option_map, None};
+ghost use Rattle.cs_json.specs.Readable.{IsReadable};
+ghost use Rattle.cs_json.specs.Shape.{document, Says};
+ghost use Rattle.cs_run.specs.Bytes.{BytesIsolate};
+ghost use Rattle.cs_run.specs.Slow.{AnswersBytes, form_of, written};
 ghost use Rattle.cs_run.specs.Outcomes.{HasOutcome};
 ghost use Rattle.cs_words.specs.declared.command.Command.TheVariants.{Slow};
 
@@ -9,6 +12,8 @@ use crate::reply::{NewFile, Reply};
 use crate::status::Status;
 use cs_base::{Contexts, Sequence};
 use cs_io::Store;
+use cs_json::{DocError, Document, print_document, read_document};
+use cs_multiply::multiply;
 use cs_report::Fault;
 use cs_words::SlowWords;
 use std::alloc::{AllocError, Global};
@@ -47,7 +52,29 @@ fn write_netlist(
     contexts: Contexts,
     bytes: &[u8],
 ) -> Result<Option<Vec<u8>>, AllocError>
-    ensures { IfOk result (λ netlist. option_map (λ v. v.items) netlist ≡ written contexts bytes.now) }
+    ensures bytes { IfOk result (λ netlist. option_map (λ v. v.items) netlist ≡ written contexts bytes.now) }
+    ensures isolates { IfOk result (λ netlist. IfSome netlist (λ v. BytesIsolate contexts bytes.now v.items)) }
 {
-    Ok(None)
+    let Some(doc) = document_of(alloc, bytes)? else {
+        return Ok(None);
+    };
+    let Some(written) = multiply(alloc, &doc, contexts)? else {
+        return Ok(None);
+    };
+    let text = print_document(alloc, &written)?;
+    Ok(Some(text))
+}
+
+// The document that bytes say, and None where they say none.
+fn document_of(alloc: Global, bytes: &[u8]) -> Result<Option<Document>, AllocError>
+    ensures { IfOk result (λ said. MatchOption said
+        (form_of (document bytes.now) ≡ None)
+        (λ doc. (document bytes.now ≡ Says doc) × IsReadable doc)) }
+{
+    match read_document(alloc, bytes) {
+        Ok(doc) => Ok(Some(doc)),
+        Err(DocError::NotJson) => Ok(None),
+        Err(DocError::BadShape { .. }) => Ok(None),
+        Err(DocError::NoMemory) => Err(AllocError),
+    }
 }

@@ -1,14 +1,109 @@
 use crate::run;
 use cs_io::{MemSink, MemStore};
+use cs_json::read_document;
 use std::alloc::{AllocError, Global};
 use std::test::Fail;
 
-fn slow_words(alloc: Global, contexts: &str) -> Result<Vec<String>, AllocError> {
-    let mut words = Vec::new(alloc);
-    for word in ["slow", "in", "out", "cert", "delays", "-c", contexts] {
-        words.push(String::from_str(alloc, word)?)?;
+// One register with the start 1.
+const ONE_REGISTER: &str =
+    "{\"modules\":{\"top\":{\"ports\":{\"clk\":{\"direction\":\"input\",\"bits\":[2]},\"d\":\
+    {\"direction\":\"input\",\"bits\":[3]},\"q\":{\"direction\":\"output\",\"bits\":[4]}},\
+    \"cells\":{\"r\":{\"type\":\"$_DFF_P_\",\"port_directions\":{\"C\":\"input\",\"D\":\
+    \"input\",\"Q\":\"output\"},\"connections\":{\"C\":[2],\"D\":[3],\"Q\":[4]}}},\
+    \"netnames\":{\"q\":{\"bits\":[4],\"attributes\":{\"init\":\"1\"}}}}}}";
+
+// That register in two contexts.
+const TWO_REGISTERS: &str = "{\"creator\":\"cslow\",\"modules\":{\"top\":{\"attributes\":{\"top\":\
+    \"00000000000000000000000000000001\"},\"cells\":{\"$cs$r0\":{\"attributes\":{},\
+    \"connections\":{\"C\":[2],\"D\":[3],\"Q\":[4]},\"hide_name\":1,\"parameters\":{},\
+    \"port_directions\":{\"C\":\"input\",\"D\":\"input\",\"Q\":\"output\"},\
+    \"type\":\"$_DFF_P_\"},\"$cs$r1\":{\"attributes\":{},\
+    \"connections\":{\"C\":[2],\"D\":[4],\"Q\":[5]},\"hide_name\":1,\"parameters\":{},\
+    \"port_directions\":{\"C\":\"input\",\"D\":\"input\",\"Q\":\"output\"},\
+    \"type\":\"$_DFF_P_\"}},\"netnames\":{\
+    \"$cs$q0\":{\"attributes\":{\"init\":\"1\"},\"bits\":[4],\"hide_name\":1},\
+    \"$cs$q1\":{\"attributes\":{\"init\":\"1\"},\"bits\":[5],\"hide_name\":1}},\
+    \"ports\":{\"clk\":{\"bits\":[2],\"direction\":\"input\"},\
+    \"d\":{\"bits\":[3],\"direction\":\"input\"},\
+    \"q\":{\"bits\":[5],\"direction\":\"output\"}}}}}\n";
+
+// An inverter.
+const INVERTER: &str =
+    "{\"modules\":{\"top\":{\"ports\":{\"a\":{\"direction\":\"input\",\"bits\":[2]},\
+    \"y\":{\"direction\":\"output\",\"bits\":[3]}},\"cells\":{\"g\":{\"type\":\"$_NOT_\",\
+    \"port_directions\":{\"A\":\"input\",\"Y\":\"output\"},\
+    \"connections\":{\"A\":[2],\"Y\":[3]}}}}}}";
+
+fn texts(alloc: Global, words: &[&str]) -> Result<Vec<String>, AllocError> {
+    let mut texts = Vec::new(alloc);
+    for word in words {
+        texts.push(String::from_str(alloc, word)?)?;
     }
-    Ok(words)
+    Ok(texts)
+}
+
+fn slow_words(alloc: Global, contexts: &str) -> Result<Vec<String>, AllocError> {
+    texts(
+        alloc,
+        &["slow", "in", "out", "cert", "delays", "-c", contexts],
+    )
+}
+
+#[test]
+fn single_register_in_two_contexts(rt: HostRuntime) -> Result<(), Fail> {
+    let alloc = rt.alloc();
+    let mut store = MemStore::new(alloc);
+    let mut out = MemSink::new(alloc);
+    assert!(rt; store.add("in", ONE_REGISTER.as_bytes()).is_ok());
+    let words = slow_words(alloc, "2")?;
+    assert_eq!(rt; run(&rt, &words, &mut store, &mut out), 0);
+    assert!(rt; store.file("out") == Some(TWO_REGISTERS.as_bytes()));
+    assert!(rt; store.file("cert").is_none());
+    assert!(rt; out.bytes().is_empty());
+    Ok(())
+}
+
+#[test]
+fn one_context_and_sixteen(rt: HostRuntime) -> Result<(), Fail> {
+    let alloc = rt.alloc();
+    for (contexts, registers) in [("1", 1), ("16", 16)] {
+        let mut store = MemStore::new(alloc);
+        let mut out = MemSink::new(alloc);
+        assert!(rt; store.add("in", ONE_REGISTER.as_bytes()).is_ok());
+        let words = slow_words(alloc, contexts)?;
+        assert_eq!(rt; run(&rt, &words, &mut store, &mut out), 0);
+        let bytes = store.file("out").ok_or("a file")?;
+        let document = read_document(alloc, bytes).map_err(|_| "a document")?;
+        let module = document.modules.as_slice().first().ok_or("a module")?;
+        assert_eq!(rt; module.cells.len(), registers);
+    }
+    Ok(())
+}
+
+#[test]
+fn a_write_fails(rt: HostRuntime) -> Result<(), Fail> {
+    let alloc = rt.alloc();
+    let mut store = MemStore::new(alloc);
+    let mut out = MemSink::new(alloc);
+    assert!(rt; store.add("in", ONE_REGISTER.as_bytes()).is_ok());
+    assert!(rt; store.fail_at(2, 7).is_ok());
+    let words = slow_words(alloc, "2")?;
+    assert_eq!(rt; run(&rt, &words, &mut store, &mut out), 4);
+    assert!(rt; store.file("out") == Some(b"{\"creat".as_slice()));
+    assert!(rt; out.bytes().is_empty());
+    Ok(())
+}
+
+#[test]
+fn words_in_another_order_are_refused(rt: HostRuntime) -> Result<(), Fail> {
+    let alloc = rt.alloc();
+    let mut store = MemStore::new(alloc);
+    let mut out = MemSink::new(alloc);
+    let words = ["slow", "-c", "2", "in", "out", "cert", "delays"];
+    let words = texts(alloc, words.as_slice())?;
+    assert_eq!(rt; run(&rt, &words, &mut store, &mut out), 2);
+    assert_eq!(rt; out.bytes(), b"usage: words of slow\n".as_slice());
+    Ok(())
 }
 
 #[test]
@@ -52,12 +147,14 @@ fn a_read_and_a_put_fail(rt: HostRuntime) -> Result<(), Fail> {
 #[test]
 fn another_form_is_not_built(rt: HostRuntime) -> Result<(), Fail> {
     let alloc = rt.alloc();
-    let mut store = MemStore::new(alloc);
-    let mut out = MemSink::new(alloc);
-    assert!(rt; store.add("in", b"{}").is_ok());
-    let words = slow_words(alloc, "2")?;
-    assert_eq!(rt; run(&rt, &words, &mut store, &mut out), 99);
-    assert_eq!(rt; out.bytes(), b"not built\n".as_slice());
-    assert!(rt; store.file("out").is_none());
+    for document in ["{}", INVERTER] {
+        let mut store = MemStore::new(alloc);
+        let mut out = MemSink::new(alloc);
+        assert!(rt; store.add("in", document.as_bytes()).is_ok());
+        let words = slow_words(alloc, "2")?;
+        assert_eq!(rt; run(&rt, &words, &mut store, &mut out), 99);
+        assert_eq!(rt; out.bytes(), b"not built\n".as_slice());
+        assert!(rt; store.file("out").is_none());
+    }
     Ok(())
 }

@@ -4,7 +4,7 @@ use Rattle.cs_run.specs.declared.status.Status.{Status}
 use Rattle.cs_run.specs.declared.status.Status.TheVariants.{Done, NoMemory, Usage, ReadFault, WriteFault, NotBuilt}
 use Rattle.cs_run.specs.Statuses.{code_of}
 use Rattle.cs_run.specs.Outcomes.{World, world, Ran}
-use Rattle.cs_run.proofs.PromiseLemmas.{same_status, at_done, at_write_fault, at_not_built, not_built, complete, usage, others}
+use Rattle.cs_run.proofs.PromiseLemmas.{same_status, at_done, at_write_fault, at_not_built, not_built, complete, usage, output, isolates, others}
 use Rattle.cs_run.proofs.program.run.Goals as goal
 
 is_listed : (s : Status) → Contains (0 ∷ 1 ∷ 2 ∷ 3 ∷ 4 ∷ 99 ∷ []) (code_of s)
@@ -82,3 +82,15 @@ returns-clause-complete g c = λ slow bytes netlist input built no_fault.
 pub returns-clause-others : goal.returns-clause-others
 returns-clause-others g c =
     others (texts c.args.words.now) (world (g.S.Store.state c.args.store.now) (g.O.Sink.state c.args.out.now)) (world (g.S.Store.state c.perform-status.new.store) (g.O.Sink.state c.perform-status.new.out)) c.perform-status.result c.perform-status.ensures
+
+pub returns-clause-output : goal.returns-clause-output
+returns-clause-output g c = λ asked slow bytes input.
+    output (texts c.args.words.now) (world (g.S.Store.state c.args.store.now) (g.O.Sink.state c.args.out.now)) (world (g.S.Store.state c.perform-status.new.store) (g.O.Sink.state c.perform-status.new.out))
+    (row (texts c.args.words.now) (world (g.S.Store.state c.args.store.now) (g.O.Sink.state c.args.out.now))
+    (world (g.S.Store.state c.perform-status.new.store) (g.O.Sink.state c.perform-status.new.out)) c.perform-status.result Done c.code.result c.code.ensures c.perform-status.ensures asked) slow bytes input
+
+pub returns-clause-isolates : goal.returns-clause-isolates
+returns-clause-isolates g c = λ asked slow bytes netlist input holds.
+    isolates (texts c.args.words.now) (world (g.S.Store.state c.args.store.now) (g.O.Sink.state c.args.out.now)) (world (g.S.Store.state c.perform-status.new.store) (g.O.Sink.state c.perform-status.new.out))
+    (row (texts c.args.words.now) (world (g.S.Store.state c.args.store.now) (g.O.Sink.state c.args.out.now))
+    (world (g.S.Store.state c.perform-status.new.store) (g.O.Sink.state c.perform-status.new.out)) c.perform-status.result Done c.code.result c.code.ensures c.perform-status.ensures asked) slow bytes netlist input holds

@@ -1,0 +1,4 @@
+pub mod Multiplies
+pub mod Written
+pub mod FirstForm
+pub mod Multiplied
