@@ -6,7 +6,6 @@ use Rattle.cs_json.specs.declared.document.Module.{Module}
 use Rattle.cs_json.specs.declared.document.CellDecl.{CellDecl}
 use Rattle.cs_json.specs.declared.document.PortDecl.{PortDecl}
 use Rattle.cs_cells.specs.declared.register.FfKind.{FfKind}
-use Rattle.cs_net.specs.Pins.{has_pins, register_widths}
 use Rattle.cs_net.specs.Conditions.{early_refusal, reserved, only_one}
 
 -- a rising-edge register without further pins
@@ -16,10 +15,6 @@ is_plain_register cell = bytes_eq cell.kind (codes "$_DFF_P_")
 -- the register of that type
 abbrev pub plain_kind : FfKind
 plain_kind = record { rising = true; reset = None; enable = None; enable_over_reset = false }
-
--- its pins are those of its type
-abbrev pub has_plain_pins : CellDecl → Bool
-has_plain_pins cell = has_pins (register_widths plain_kind) cell.pins
 
 -- the bits of ports
 abbrev pub port_bit_count : List PortDecl → ℕ

@@ -9,8 +9,7 @@ use cs_base::Signal;
 use cs_json::{CellDecl, Direction, PinDecl, PortDecl};
 use std::alloc::{AllocError, Global};
 
-/// The first pin of a name.
-pub(crate) fn pin_named<'a>(name: &str, pins: &'a [PinDecl]) -> Option<&'a PinDecl>
+fn pin_named<'a>(name: &str, pins: &'a [PinDecl]) -> Option<&'a PinDecl>
     ensures { option_copied result ≡ find (λ p. bytes_eq p.name name.now) pins.now }
 {
     pins.iter().find(|pin| pin.name.as_str() == name)

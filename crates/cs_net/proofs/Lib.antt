@@ -7,3 +7,4 @@ pub mod Values
 pub mod Traces
 pub mod Answering
 mod Examples
+pub mod WidthLemmas

@@ -11,3 +11,4 @@ pub mod Trace
 pub mod Contexts
 pub mod Isolates
 pub mod Refusal
+pub mod Widths

@@ -3,6 +3,7 @@ mod classes;
 mod clocks;
 mod constants;
 mod drivers;
+mod pins;
 mod ports;
 mod starts;
 mod top;
@@ -14,5 +15,6 @@ pub(crate) use clocks::{
 };
 pub(crate) use constants::{const_z, is_output, name_at};
 pub(crate) use drivers::{driven_numbers, input_numbers, numbers_in, two_drivers};
+pub(crate) use pins::bad_pins;
 pub(crate) use ports::{inout, reserved};
 pub(crate) use starts::two_starts;

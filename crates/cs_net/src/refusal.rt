@@ -1,15 +1,15 @@
-// The conditions on ports, drivers, clocks and starts, asked in order.
+// The conditions on pins, ports, drivers, clocks and starts, asked in order.
 ghost use Rattle.std.specs.Prelude.{◌≡◌, ℕ, nat_eq, IfOk};
 ghost use Rattle.std.specs.List.{list_any};
 ghost use Rattle.indexmap.specs.IndexSet.{contains};
 ghost use Rattle.cs_net.specs.Drivers.{is_bit};
 ghost use Rattle.cs_net.specs.Conditions.{of_clock, two_clocks, mixed_edges, clock_as_data, clock_of, input_bits};
 ghost use Rattle.cs_net.specs.PinBits.{bits_of_cells, clock_bits_of};
-ghost use Rattle.cs_net.specs.Refusal.{driver_refusal, clock_refusal, name_refusal, wiring_refusal};
+ghost use Rattle.cs_net.specs.Refusal.{driver_refusal, clock_refusal, name_refusal, port_refusal, wiring_refusal};
 
 use crate::conditions::{
-    ClockBit, clock_as_data, clock_bits, clock_not_input, const_z, driven_numbers, first_clock,
-    inout, input_numbers, mixed_edges, reserved, two_clocks, two_drivers, two_starts,
+    ClockBit, bad_pins, clock_as_data, clock_bits, clock_not_input, const_z, driven_numbers,
+    first_clock, inout, input_numbers, mixed_edges, reserved, two_clocks, two_drivers, two_starts,
 };
 use crate::connection::{PinBit, bits_of_cells};
 use crate::error::NetError;
@@ -19,12 +19,22 @@ use cs_json::Module;
 use indexmap::IndexSet;
 use std::alloc::{AllocError, Global};
 
-/// The first of the conditions 6 to 13 and then 16 that holds of a module, told as its refusal: an inout port,
-/// `z` at an input, a bit with two drivers, a clock that is no input bit, two clocks, mixed edges, a clock that is
-/// read as data, two starts of one register, or a port with a reserved name. It errs only where memory runs out.
+/// The first of the conditions 5 to 13 and then 16 that holds of a module, told as its refusal: a cell with other pins
+/// than its type, an inout port, `z` at an input, a bit with two drivers, a clock that is no input bit, two clocks, mixed
+/// edges, a clock that is read as data, two starts of one register, or a port with a reserved name. It errs only where
+/// memory runs out.
 #[tactic(auto, unfolding(crate::specs::Refusal::wiring_refusal))]
 pub fn wiring_refusal(alloc: Global, top: &Module) -> Result<Option<NetError>, AllocError>
     ensures { IfOk result (λ found. found ≡ wiring_refusal top.now) }
+{
+    if let Some(error) = bad_pins(alloc, top)? {
+        return Ok(Some(error));
+    }
+    port_refusal(alloc, top)
+}
+
+fn port_refusal(alloc: Global, top: &Module) -> Result<Option<NetError>, AllocError>
+    ensures { IfOk result (λ found. found ≡ port_refusal top.now) }
 {
     if let Some(error) = inout(alloc, top)? {
         return Ok(Some(error));
