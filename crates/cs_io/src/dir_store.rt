@@ -1,4 +1,4 @@
-// The files of the system, as a store. It tells nothing of what they insert_file.
+// The files of the system, as a store. It tells nothing of what they hold.
 ghost use Rattle.std.specs.Prelude.{◌≡◌, ◌≤◌, [], None};
 ghost use Rattle.cs_io.specs.Stores.{ReadGives};
 
