@@ -1,24 +1,20 @@
 -- A cell whose pins are in order, are all of its type, and miss none of it, has exactly the pins of its type in order.
-use Rattle.std.proofs.Common.{◌≡◌, ℕ, List, [], ◌∷◌, length, Bool, true, false, ◌&&◌, cond, Some, Ordering, Less, Equal, Greater, refl, sym, ap, ap₂, subst, ◌∙◌, codes, eqb-true, arith}
+use Rattle.std.proofs.Common.{◌≡◌, ℕ, List, [], ◌∷◌, length, Bool, true, false, ◌&&◌, cond, Some, Ordering, Less, Equal, Greater, refl, sym, ap, subst, ◌∙◌, eqb-true}
 use Rattle.std.specs.Prelude.{IsTrue, find, option_map, unwrap_or, is_some, bytes_eq, ◌==◌}
 use Rattle.std.specs.List.{AllByRecursion, list_all}
 use Rattle.std.specs.Ordering.{is_lt}
 use Rattle.std.proofs.lemmas.Cmp.{nat_list_cmp_total, tied_itself}
 use Rattle.std.proofs.lemmas.Slice.Eq.{bytes_eq-Decides}
-use Rattle.cs_json.specs.declared.document.CellDecl.{CellDecl}
 use Rattle.cs_json.specs.declared.document.PinDecl.{PinDecl}
 use Rattle.cs_json.specs.Readable.{is_below, AreInOrder}
-use Rattle.cs_net.specs.Pins.{Widths, is_pin_of, has_pin, has_pins, register_widths}
-use Rattle.cs_base.specs.declared.signal.Signal.{Signal}
-use Rattle.cs_multiply.specs.FirstForm.{plain_kind}
-use Rattle.cs_multiply.proofs.PlainModules.{IsPlainCell}
+use Rattle.cs_net.specs.Pins.{Widths, is_pin_of, has_pin, has_pins}
 
 -- ---- names
 
-same_name : (a b : List ℕ) → bytes_eq a b ≡ true → a ≡ b
+pub same_name : (a b : List ℕ) → bytes_eq a b ≡ true → a ≡ b
 same_name a b h = (bytes_eq-Decides a b).0 h
 
-never_below_itself : (a : List ℕ) → IsTrue (is_below a a) → ⊥
+pub never_below_itself : (a : List ℕ) → IsTrue (is_below a a) → ⊥
 never_below_itself a h = let tied : is_below a a ≡ false = ap is_lt (tied_itself nat_list_cmp_total a) in let both : true ≡ false = sym h ∙ tied in absurd (cc)
 
 less_of : (o : Ordering) → IsTrue (is_lt o) → o ≡ Less
@@ -116,11 +112,11 @@ exact_pins (w ∷ ws) (p ∷ pins) ws_order order are there =
 
 -- ---- from the tests
 
-both : (a b : Bool) → a && b ≡ true → (a ≡ true) × (b ≡ true)
+pub both : (a b : Bool) → a && b ≡ true → (a ≡ true) × (b ≡ true)
 both true b h = (refl, h)
 both false b h = absurd (cc)
 
-all_true : {A : Type 0} (test : A → Bool) (xs : List A) → list_all test xs ≡ true → AllByRecursion (λ x. test x ≡ true) xs
+pub all_true : {A : Type 0} (test : A → Bool) (xs : List A) → list_all test xs ≡ true → AllByRecursion (λ x. test x ≡ true) xs
 all_true test [] h = tt
 all_true test (x ∷ xs) h = let parts = both (test x) (list_all test xs) h in (parts.0, all_true test xs parts.1)
 
@@ -129,44 +125,3 @@ unfolding ArePinsOf AreThere
 exact_of_test ws pins ws_order order h =
     let parts = both (list_all (is_pin_of ws) pins) (list_all (λ w. has_pin pins w.0) ws) h in
     exact_pins ws pins ws_order order (all_true (is_pin_of ws) pins parts.0) (all_true (λ w. has_pin pins w.0) ws parts.1)
-
--- ---- plain registers
-
-one_bit : (bits : List Signal) → length bits ≡ 1 → (s : Signal) × (bits ≡ s ∷ [])
-one_bit [] h = absurd (cc)
-one_bit (s ∷ []) h = (s, refl)
-one_bit (s ∷ t ∷ bits) h = absurd (omega (arith, h))
-
-plain_shape : (cell : CellDecl) (pins : List PinDecl) → cell.pins ≡ pins → cell.kind ≡ codes "$_DFF_P_" → AreExactly (register_widths plain_kind) pins → IsPlainCell cell
-plain_shape cell [] is kind exact = absurd exact
-plain_shape cell (c ∷ []) is kind exact = absurd exact.2
-plain_shape cell (c ∷ d ∷ []) is kind exact = absurd exact.2.2
-plain_shape cell (c ∷ d ∷ q ∷ []) is kind (c_name, c_width, (d_name, d_width, (q_name, q_width, end))) =
-    let c_bit = one_bit c.bits c_width in
-    let d_bit = one_bit d.bits d_width in
-    let q_bit = one_bit q.bits q_width in
-    record {
-      kind = kind;
-      clock = c_bit.0;
-      source = d_bit.0;
-      drives = q_bit.0;
-      clock_side = c.output;
-      source_side = d.output;
-      drives_side = q.output;
-      pins = is ∙ spell c d q (codes "C") (codes "D") (codes "Q") (c_bit.0 ∷ []) (d_bit.0 ∷ []) (q_bit.0 ∷ []) c_name d_name q_name c_bit.1 d_bit.1 q_bit.1;
-    }
-  where
-    spelled_pin : (p : PinDecl) (name : List ℕ) (bits : List Signal) → p.name ≡ name → p.bits ≡ bits → let q : PinDecl = record { name = name; bits = bits; output = p.output } in p ≡ q
-    spelled_pin p name bits named has = ap₂ (λ (n : List ℕ) (b : List Signal). let q : PinDecl = record { name = n; bits = b; output = p.output } in q) named has
-
-    spell : (c d q : PinDecl) (c_name d_name q_name : List ℕ) (c_bits d_bits q_bits : List Signal) → c.name ≡ c_name → d.name ≡ d_name → q.name ≡ q_name → c.bits ≡ c_bits → d.bits ≡ d_bits → q.bits ≡ q_bits →
-        let pins : List PinDecl = record { name = c_name; bits = c_bits; output = c.output } ∷ record { name = d_name; bits = d_bits; output = d.output } ∷ record { name = q_name; bits = q_bits; output = q.output } ∷ [] in c ∷ d ∷ q ∷ [] ≡ pins
-    spell c d q c_name d_name q_name c_bits d_bits q_bits cn dn qn cb db qb =
-        let c_is = spelled_pin c c_name c_bits cn cb in let d_is = spelled_pin d d_name d_bits dn db in let q_is = spelled_pin q q_name q_bits qn qb in cc
-plain_shape cell (c ∷ d ∷ q ∷ more ∷ pins) is kind exact = absurd exact.2.2.2
-
-widths_in_order : AreInOrder (λ (w : List ℕ × ℕ). w.0) (register_widths plain_kind)
-widths_in_order = ((refl, (refl, tt)), ((refl, tt), (tt, tt)))
-
-pub is_plain_cell : (cell : CellDecl) → cell.kind ≡ codes "$_DFF_P_" → AreInOrder (λ (p : PinDecl). p.name) cell.pins → has_pins (register_widths plain_kind) cell.pins ≡ true → IsPlainCell cell
-is_plain_cell cell kind order h = plain_shape cell cell.pins refl kind (exact_of_test (register_widths plain_kind) cell.pins widths_in_order order h)

@@ -1,12 +1,10 @@
 -- Places of bits among signals, and the things that have them.
-use Rattle.std.proofs.Common.{◌≡◌, ℕ, zero, suc, ◌+◌, ◌<◌, ◌≤◌, List, [], ◌∷◌, ◌++◌, map, length, get_or, Bool, true, false, ◌||◌, cond, Some, None, refl, sym, ap, ◌∙◌, arith, ne_eqb, eqb-true}
-use Rattle.std.specs.Prelude.{find, filter, ◌==◌}
-use Rattle.std.specs.List.{AllByRecursion, list_any, position_from, zip}
+use Rattle.std.proofs.Common.{◌≡◌, ℕ, zero, suc, ◌+◌, ◌<◌, ◌≤◌, List, [], ◌∷◌, map, length, get_or, Bool, true, false, cond, Some, None, refl, sym, ap, ◌∙◌, arith, eqb-true}
+use Rattle.std.specs.Prelude.{find, filter}
+use Rattle.std.specs.List.{AllByRecursion, position_from}
 use Rattle.cs_base.specs.declared.signal.Signal.{Signal}
 use Rattle.cs_base.specs.declared.signal.Signal.TheVariants.{Zero, One, Unknown, HighZ, Bit}
 use Rattle.cs_net.specs.Drivers.{is_bit}
-use Rattle.cs_net.specs.Conditions.{duplicates}
-use Rattle.cs_net.specs.Pins.{count_from}
 
 -- ---- a place
 
@@ -100,37 +98,3 @@ is_bit_itself b One h = absurd (cc)
 is_bit_itself b Unknown h = absurd (cc)
 is_bit_itself b HighZ h = absurd (cc)
 is_bit_itself b (Bit a) h = ap Bit (eqb-true a b h)
-
--- ---- numbers without repeats
-
-pub none_equal : (a from count : ℕ) → a < from → list_any (λ n. n == a) (count_from from count) ≡ false
-none_equal a from zero below = refl
-none_equal a from (suc count) below = rw (ne_eqb from a (λ same. absurd (omega arith))) (none_equal a (from + 1) count (omega arith))
-
-pub list_any-append : {A : Type 0} (p : A → Bool) (xs ys : List A) → list_any p (xs ++ ys) ≡ (list_any p xs || list_any p ys)
-list_any-append p [] ys = refl
-list_any-append p (x ∷ xs) ys = elim (p x) as (λ b. (b || list_any p (xs ++ ys)) ≡ ((b || list_any p xs) || list_any p ys)) [ true ↦ refl | false ↦ list_any-append p xs ys ]
-
--- numbers from `from` on, and then others that are none of them and stand once
-pub none_twice : (from count : ℕ) (others : List ℕ) → AllByRecursion (λ n. from + count ≤ n) others → duplicates others ≡ [] → duplicates (count_from from count ++ others) ≡ []
-none_twice from zero others above once = once
-none_twice from (suc count) others above once =
-    let apart : list_any (λ n. n == from) (count_from (from + 1) count ++ others) ≡ false =
-    list_any-append (λ n. n == from) (count_from (from + 1) count) others
-    ∙ ap (λ b. b || list_any (λ n. n == from) others) (none_equal from (from + 1) count (omega arith))
-    ∙ none_of_others others above in
-    rw apart (none_twice (from + 1) count others (weaker others above) once)
-  where
-    none_of_others : (others : List ℕ) → AllByRecursion (λ n. from + suc count ≤ n) others → list_any (λ n. n == from) others ≡ false
-    none_of_others [] above = refl
-    none_of_others (n ∷ others) above = let first = above.0 in rw (ne_eqb n from (λ same. absurd (omega arith))) (none_of_others others above.1)
-
-    weaker : (others : List ℕ) → AllByRecursion (λ n. from + suc count ≤ n) others → AllByRecursion (λ n. (from + 1) + count ≤ n) others
-    weaker [] above = tt
-    weaker (n ∷ others) above = let first = above.0 in (omega arith, weaker others above.1)
-
--- ---- parallel lists
-
-pub zip-images : {A B C : Type 0} (f : A → B) (g : A → C) (xs : List A) → zip (map f xs) (map g xs) ≡ map (λ x. (f x, g x)) xs
-zip-images f g [] = refl
-zip-images f g (x ∷ xs) = ap (λ rest. (f x, g x) ∷ rest) (zip-images f g xs)

@@ -1,4 +1,4 @@
 pub mod Multiplies
+pub mod Circuits
 pub mod Written
-pub mod FirstForm
 pub mod Multiplied

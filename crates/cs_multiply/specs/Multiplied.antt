@@ -1,4 +1,4 @@
--- What a written document is to the document that is read.
+-- What a written document is to the netlist that is read.
 use Rattle.std.specs.Prelude.{ℕ, None}
 use Rattle.cs_json.specs.declared.document.Document.{Document}
 use Rattle.cs_json.specs.Readable.{IsReadable}
@@ -7,10 +7,8 @@ use Rattle.cs_net.specs.Accept.{IsNet}
 use Rattle.cs_net.specs.Contexts.{no_images}
 use Rattle.cs_net.specs.Isolates.{Isolates}
 
--- both documents have a netlist, and that of the written one, which is readable, isolates that of the other one in c
-pub record IsMultiplied (doc written : Document) (c : ℕ) : Type 0 where
-  pub net : Net
-  pub of_read : IsNet doc None net
+-- the written document is readable, and has a netlist that isolates the other one in c
+pub record IsMultiplied (net : Net) (written : Document) (c : ℕ) : Type 0 where
   pub written_net : Net
   pub of_written : IsNet written None written_net
   pub readable : IsReadable written

@@ -1,147 +1,146 @@
--- The document of a module of plain registers with each register C times in series.
-use Rattle.std.specs.Prelude.{ℕ, zero, suc, ◌+◌, ◌-◌, ◌*◌, ◌/◌, ◌%◌, ◌==◌, List, [], ◌∷◌, ◌++◌, length, map, get_or, Bool, true, false, Option, Some, None, if◌then◌else◌, unwrap_or, option_map, codes, decimal}
-use Rattle.std.specs.List.{position_from}
-use Rattle.std.specs.Ordering.{nat_cmp}
-use Rattle.std.specs.Cmp.Lexicographic.{slice_cmp}
-use Rattle.std.specs.BTreeMap.{insert_entry}
+-- The circuit of a netlist of gates and plain registers with each register C times in series.
+use Rattle.std.specs.Prelude.{ℕ, ◌+◌, ◌-◌, ◌*◌, ◌/◌, ◌%◌, ◌==◌, List, length, map, filter, filter_map, flat_map, sum_by, get_or, Bool, true, false, ◌&&◌, nat_le, Option, Some, None, is_none, if◌then◌else◌, unwrap_or, option_map, option_and_then, codes}
+use Rattle.std.specs.List.{list_all}
 use Rattle.cs_base.specs.declared.signal.Signal.{Signal}
 use Rattle.cs_base.specs.declared.signal.Signal.TheVariants.{Zero, Bit}
-use Rattle.cs_json.specs.declared.document.Document.{Document}
-use Rattle.cs_json.specs.declared.document.Module.{Module}
 use Rattle.cs_json.specs.declared.document.PortDecl.{PortDecl}
-use Rattle.cs_json.specs.declared.document.CellDecl.{CellDecl}
-use Rattle.cs_json.specs.declared.document.PinDecl.{PinDecl}
-use Rattle.cs_json.specs.declared.document.NetDecl.{NetDecl}
-use Rattle.cs_json.specs.declared.document.Entry.{Entry}
-use Rattle.cs_json.specs.declared.document.Datum.TheVariants.{Digits}
-use Rattle.cs_net.specs.Drivers.{is_bit}
-use Rattle.cs_net.specs.Pins.{pin_bits}
-use Rattle.cs_net.specs.Conditions.{input_bits, number_in, initial_value}
+use Rattle.cs_json.specs.declared.document.Document.{Document}
+use Rattle.cs_cells.specs.declared.gate.Kind.{Kind}
+use Rattle.cs_cells.specs.declared.class.Class.{Class}
+use Rattle.cs_cells.specs.declared.class.Class.TheVariants.{Gate, Register}
+use Rattle.cs_cells.specs.Gates.{pin_count, pin_name}
+use Rattle.cs_net.specs.declared.netlist.Cell.{Cell}
+use Rattle.cs_net.specs.declared.netlist.Clock.{Clock}
+use Rattle.cs_net.specs.declared.netlist.Port.{Port}
+use Rattle.cs_net.specs.Netlist.{Net, bit_at}
+use Rattle.cs_net.specs.Drivers.{signal_of, is_input, data_inputs, data_outputs}
+use Rattle.cs_net.specs.Pins.{count_from}
+use Rattle.cs_net.specs.Places.{place_of}
+use Rattle.cs_net.specs.Conditions.{number_in}
+use Rattle.cs_multiply.specs.declared.circuit.Circuit.{Circuit}
+use Rattle.cs_multiply.specs.declared.circuit.GatePart.{GatePart}
+use Rattle.cs_multiply.specs.declared.circuit.RegisterPart.{RegisterPart}
 use Rattle.cs_multiply.specs.Multiplies.{rewired}
+use Rattle.cs_multiply.specs.Circuits.{circuit_document}
 
--- ---- numbers in the order of their names
+-- ---- which netlists
 
--- a name by its number
-abbrev pub numbered : List ℕ → ℕ → List ℕ
-numbered front n = front ++ decimal n
+-- a gate, or a register without reset and enable
+abbrev pub is_plain : Class → Bool
+is_plain (Gate kind) = true
+is_plain (Register kind) = is_none kind.reset && is_none kind.enable
+is_plain _ = false
 
--- the numbers below `count` with their decimal texts, in byte order of these
-abbrev pub entries_below : ℕ → List (List ℕ × ℕ)
-entries_below zero = []
-entries_below (suc n) = insert_entry (slice_cmp nat_cmp) (entries_below n) (decimal n) n
+-- the bits of ports
+abbrev pub port_bit_count : List Port → ℕ
+port_bit_count ports = sum_by (λ p. length p.bits) ports
 
--- the numbers below `count`, in byte order of their decimal texts
-abbrev pub numbers_below : ℕ → List ℕ
-numbers_below count = map (λ e. e.1) (entries_below count)
+-- gates and plain registers alone, at most 65,536 of them, and at most 65,536 bits in the ports
+abbrev pub can_multiply : Net → Bool
+can_multiply net =
+    nat_le (length net.cells) 65536 && nat_le (port_bit_count net.ports) 65536
+    && list_all (λ cell. is_plain cell.class) net.cells
 
--- ---- the registers that are read
+-- ---- what the cells drive and read, in order
 
--- the signal of a pin of one bit
-abbrev pub pin_signal : List ℕ → CellDecl → Signal
-pin_signal name cell = get_or (pin_bits cell.pins name) 0 Zero
+-- the bits of the input ports, the clock among them
+abbrev pub port_inputs : Net → List Signal
+port_inputs net = flat_map (λ p. p.bits) (filter (λ p. is_input p.direction) net.ports)
 
--- what each register has at D, and what it drives
-abbrev pub sources : Module → List Signal
-sources m = map (pin_signal (codes "D")) m.cells
+abbrev pub gate_kind : Class → Option Kind
+gate_kind (Gate kind) = Some kind
+gate_kind _ = None
 
-abbrev pub outputs : Module → List Signal
-outputs m = map (pin_signal (codes "Q")) m.cells
+-- a gate's output
+abbrev pub gate_output : Cell → Option Signal
+gate_output cell = option_map (λ kind. signal_of cell (codes "Y")) (gate_kind cell.class)
 
--- the start of a register by what it drives
-abbrev pub start_at : Module → Signal → Bool
-start_at m q = unwrap_or (option_map (initial_value m) (number_in q)) false
+abbrev pub is_register : Class → Bool
+is_register (Register kind) = true
+is_register _ = false
 
-abbrev pub starts : Module → List Bool
-starts m = map (start_at m) (outputs m)
+abbrev pub registers_of : Net → List Cell
+registers_of net = filter (λ cell. is_register cell.class) net.cells
 
--- ---- bits: from 2 on those of the input ports, then those of the registers
+abbrev pub gate_outputs : Net → List Signal
+gate_outputs net = filter_map gate_output net.cells
 
-abbrev pub first_register : Module → ℕ
-first_register m = 2 + length (input_bits m)
+abbrev pub register_outputs : Net → List Signal
+register_outputs net = map (λ cell. signal_of cell (codes "Q")) (registers_of net)
 
--- the bit of register n
-abbrev pub register_bit : Module → ℕ → ℕ
-register_bit m n = first_register m + n
+abbrev pub register_sources : Net → List Signal
+register_sources net = map (λ cell. signal_of cell (codes "D")) (registers_of net)
 
--- where a bit is written: an input port's bit by its place, a register's output as the last of its C registers, and any
--- other bit as 0
-abbrev pub wire_by : Module → ℕ → Option ℕ → Option ℕ → Signal
-wire_by m c (Some i) place = Bit (2 + i)
-wire_by m c None (Some r) = Bit (register_bit m (r * c + (c - 1)))
-wire_by m c None None = Zero
+-- ---- where each bit is written
 
--- the place of a bit among signals, from 0
-abbrev pub place_of : ℕ → List Signal → Option ℕ
-place_of b signals = position_from (is_bit b) 0 signals
+-- the outputs of gate p and of register n
+abbrev pub gate_number : Net → ℕ → ℕ
+gate_number net p = 2 + length (port_inputs net) + p
 
-abbrev pub wire_of : Module → ℕ → ℕ → Signal
-wire_of m c b = wire_by m c (place_of b (input_bits m)) (place_of b (outputs m))
+abbrev pub register_number : Net → ℕ → ℕ
+register_number net n = 2 + length (port_inputs net) + length (gate_outputs net) + n
+
+-- an input port's bit by its place, a gate's output by the gate's, a register's output as the last of its C registers,
+-- and any other bit as 0
+abbrev pub wire_by : Net → ℕ → Option ℕ → Option ℕ → Option ℕ → Signal
+wire_by net c (Some i) gate register = Bit (2 + i)
+wire_by net c None (Some p) register = Bit (gate_number net p)
+wire_by net c None None (Some r) = Bit (register_number net (r * c + (c - 1)))
+wire_by net c None None None = Zero
+
+abbrev pub wire_of : Net → ℕ → ℕ → Signal
+wire_of net c b =
+    wire_by net c (place_of b (port_inputs net)) (place_of b (gate_outputs net)) (place_of b (register_outputs net))
 
 -- a signal as it is written
-abbrev pub written_signal : Module → ℕ → Signal → Signal
-written_signal m c s = rewired (wire_of m c) s
+abbrev pub written_signal : Net → ℕ → Signal → Signal
+written_signal net c s = rewired (wire_of net c) s
 
--- ---- the registers that are written: register n is of the read register n div C, and stage n mod C of its series
+-- ---- the parts
 
--- the clock's bit, which every register of the module has at C
-abbrev pub clock_signal : Module → Signal
-clock_signal m = get_or (map (pin_signal (codes "C")) m.cells) 0 Zero
+abbrev pub written_port : Net → ℕ → Port → PortDecl
+written_port net c p = record { name = p.name; direction = p.direction; bits = map (written_signal net c) p.bits }
 
--- the first of a series has what the read register has at D, each other one the output of the one before
-abbrev pub source_of : Module → ℕ → ℕ → Signal
-source_of m c n =
-    if n % c == 0 then written_signal m c (get_or (sources m) (n / c) Zero) else Bit (register_bit m (n - 1))
+-- a gate reads what it read
+abbrev pub written_gate : Net → ℕ → Cell → Option GatePart
+written_gate net c cell = option_map (λ kind. record {
+  origin = cell.name;
+  kind = kind;
+  pins = map (λ i. written_signal net c (signal_of cell (pin_name kind i))) (count_from 0 (pin_count kind));
+}) (gate_kind cell.class)
 
--- a pin of one bit
-abbrev pub pin : List ℕ → Signal → Bool → PinDecl
-pin name signal output = record { name = name; bits = signal ∷ []; output = output }
+-- the start of a register by what it drives
+abbrev pub start_at : Net → Signal → Bool
+start_at net q = unwrap_or (option_map (bit_at net.starts) (number_in q)) false
 
-abbrev pub register_cell : Module → ℕ → ℕ → CellDecl
-register_cell m c n = record {
-  name = numbered (codes "$cs$r") n;
-  kind = codes "$_DFF_P_";
-  parameters = [];
-  attributes = [];
-  pins =
-      pin (codes "C") (written_signal m c (clock_signal m)) false
-      ∷ pin (codes "D") (source_of m c n) false
-      ∷ pin (codes "Q") (Bit (register_bit m n)) true ∷ [];
+abbrev pub register_starts : Net → List Bool
+register_starts net = map (start_at net) (register_outputs net)
+
+-- register n is of the read register n div C: the first of a series has what that has at D, each other one the output
+-- of the one before, and all have its start
+abbrev pub stage : Net → ℕ → ℕ → RegisterPart
+stage net c n = record {
+  source = if n % c == 0 then written_signal net c (get_or (register_sources net) (n / c) Zero)
+      else Bit (register_number net (n - 1));
+  start = get_or (register_starts net) (n / c) false;
 }
 
--- `1` or `0`
-abbrev pub digit_text : Bool → List ℕ
-digit_text b = if b then codes "1" else codes "0"
+-- the clock, by the number of its bit
+abbrev pub written_clock : Net → ℕ → Option Clock
+written_clock net c = option_and_then
+    (λ clock. option_map (λ b. record { bit = b; rising = clock.rising }) (number_in (wire_of net c clock.bit)))
+    net.clock
 
--- the net of register n says its start
-abbrev pub register_net : Module → ℕ → ℕ → NetDecl
-register_net m c n = record {
-  name = numbered (codes "$cs$q") n;
-  bits = Bit (register_bit m n) ∷ [];
-  attributes = record { name = codes "init"; datum = Digits (digit_text (get_or (starts m) (n / c) false)) } ∷ [];
+unfoldable pub multiplied : Net → ℕ → Circuit
+multiplied net c = record {
+  name = net.name;
+  ports = map (written_port net c) net.ports;
+  clock = written_clock net c;
+  first_name = 1 + length (data_inputs net) + length (data_outputs net);
+  gates = filter_map (written_gate net c) net.cells;
+  registers = map (stage net c) (count_from 0 (length (register_outputs net) * c));
 }
 
--- how many registers are written
-abbrev pub register_count : Module → ℕ → ℕ
-register_count m c = length m.cells * c
-
--- ---- the document
-
--- a port keeps its name and its direction
-abbrev pub written_port : Module → ℕ → PortDecl → PortDecl
-written_port m c p = record { name = p.name; direction = p.direction; bits = map (written_signal m c) p.bits }
-
--- the attribute that marks the top module: 31 digits 0 and a 1
-abbrev pub top_mark : Entry
-top_mark = record { name = codes "top"; datum = Digits (codes "00000000000000000000000000000001") }
-
-unfoldable pub written_module : Module → ℕ → Module
-written_module m c = record {
-  name = m.name;
-  attributes = top_mark ∷ [];
-  ports = map (written_port m c) m.ports;
-  cells = map (register_cell m c) (numbers_below (register_count m c));
-  nets = map (register_net m c) (numbers_below (register_count m c));
-}
-
-abbrev pub written_document : Module → ℕ → Document
-written_document m c = record { modules = written_module m c ∷ [] }
+-- the document that is written for a netlist, where it can be
+unfoldable pub multiplied_document : ℕ → Net → Option Document
+multiplied_document c net = if can_multiply net then Some (circuit_document (multiplied net c)) else None

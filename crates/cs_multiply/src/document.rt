@@ -1,35 +1,65 @@
-// A document to the document with its registers multiplied.
-ghost use Rattle.std.specs.Prelude.{◌≡◌, IfOk, IfSome, option_map};
-ghost use Rattle.cs_json.specs.Readable.{IsReadable};
-ghost use Rattle.cs_multiply.specs.FirstForm.{first_form};
+// A netlist to the document with its registers multiplied.
+ghost use Rattle.std.specs.Prelude.{◌≡◌, IfOk, IfSome, nat_le};
+ghost use Rattle.std.specs.List.{list_all};
 ghost use Rattle.cs_multiply.specs.Multiplied.{IsMultiplied};
-ghost use Rattle.cs_multiply.specs.Written.{written_document};
+ghost use Rattle.cs_multiply.specs.Written.{can_multiply, is_plain, multiplied_document, port_bit_count};
 
-use crate::first_form::first_form;
-use crate::laws::first_form_is_multiplied;
-use crate::write::write_multiplied;
+use crate::emit::circuit_document;
+use crate::laws::multiplied_isolates;
+use crate::parts::is_plain;
+use crate::plan::multiplied;
 use cs_base::Contexts;
 use cs_json::Document;
+use cs_net::{Cell, Netlist, Port};
 use std::alloc::{AllocError, Global};
 
-/// The document with each register C times in series, C being the number of contexts, and None exactly
-/// where the document has not the first form: one module of at most 65,536 cells, all `$_DFF_P_`, with at
-/// most 65,536 port bits, that is a netlist. It errs only where memory runs out.
+const MOST_CELLS: usize = 65536;
+
+const MOST_PORT_BITS: usize = 65536;
+
+fn has_few_port_bits(ports: &[Port]) -> bool
+    ensures { result ≡ nat_le (port_bit_count ports.now) 65536 }
+{
+    let mut room = MOST_PORT_BITS;
+    for port in ports {
+        let count = port.bits.len();
+        if count > room {
+            return false;
+        }
+        room -= count;
+    }
+    true
+}
+
+fn are_plain(cells: &[Cell]) -> bool
+    ensures { result ≡ list_all (λ cell. is_plain cell.class) cells.now }
+{
+    cells.iter().all(|cell| is_plain(cell.class))
+}
+
+fn can_multiply(net: &Netlist) -> bool
+    ensures { result ≡ can_multiply net.now }
+{
+    net.cells().len() <= MOST_CELLS && has_few_port_bits(net.ports()) && are_plain(net.cells())
+}
+
+/// The document of a netlist with each register C times in series, C being the number of contexts, and None exactly
+/// where a cell is neither a gate nor a register without reset and enable, or there are more than 65,536 cells or bits
+/// in the ports. It errs only where memory runs out.
+#[tactic(auto, unfolding(crate::specs::Written::multiplied_document))]
 pub fn multiply(
     alloc: Global,
-    doc: &Document,
+    net: &Netlist,
     contexts: Contexts,
 ) -> Result<Option<Document>, AllocError>
-    requires { IsReadable doc.now }
-    ensures written { IfOk result (λ written. written
-        ≡ option_map (λ m. written_document m contexts) (first_form doc.now)) }
-    ensures isolates { IfOk result (λ written. IfSome written (λ w. IsMultiplied doc.now w contexts)) }
+    ensures written { IfOk result (λ written. written ≡ multiplied_document contexts net.now) }
+    ensures isolates { IfOk result (λ written. IfSome written (λ doc. IsMultiplied net.now doc contexts)) }
 {
-    let Some(module) = first_form(alloc, doc)? else {
+    if !can_multiply(net) {
         return Ok(None);
-    };
+    }
+    net.keeps();
     let _count = contexts.get();
-    first_form_is_multiplied();
-    let written = write_multiplied(alloc, module, contexts)?;
-    Ok(Some(written))
+    let circuit = multiplied(alloc, net, contexts)?;
+    Ok(Some(circuit_document(alloc, circuit)?))
 }

@@ -1,19 +1,18 @@
 //! Multiplies the registers of a netlist: each becomes C registers in series.
 #![tactic(auto)]
 
+mod circuit;
 mod document;
-mod first_form;
-mod first_places;
+mod emit;
 mod laws;
 mod numbering;
-mod registers;
-mod stages;
-mod starts;
+mod parts;
+mod plan;
 mod wiring;
-mod write;
 
+pub use circuit::{Circuit, GatePart, RegisterPart};
 pub use document::multiply;
-pub use laws::{first_form_is_multiplied, multiplied_isolates};
+pub use laws::{multiplied_isolates, plain_netlist_is_multiplied};
 
 #[cfg(test)]
 mod tests;

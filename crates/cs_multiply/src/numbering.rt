@@ -1,33 +1,44 @@
 // Numbers in the byte order of their names.
-ghost use Rattle.std.specs.Prelude.{◌≡◌, ◌<◌, IfOk, All, map, string_bytes};
-ghost use Rattle.cs_multiply.specs.Written.{entries_below, numbers_below};
+ghost use Rattle.std.specs.Prelude.{◌≡◌, ◌+◌, ◌<◌, ◌≤◌, ◌^◌, All, IfOk, map, string_bytes};
+ghost use Rattle.cs_multiply.specs.Circuits.{entries_from, places_by_name};
 
 use std::alloc::{AllocError, Global};
 use std::collections::BTreeMap;
 
-// The numbers below `count`, each under its decimal text.
-fn named_numbers(alloc: Global, count: usize) -> Result<BTreeMap<String, usize>, AllocError>
+// The places below `count`, each under the decimal text of its number.
+fn named_places(
+    alloc: Global,
+    first: usize,
+    count: usize,
+) -> Result<BTreeMap<String, usize>, AllocError>
+    requires { first + count < 2 ^ 63 }
     ensures { IfOk result
-        (λ named. map (λ e. (string_bytes e.0, e.1)) named.entries ≡ entries_below count) }
+        (λ named. map (λ e. (string_bytes e.0, e.1)) named.entries ≡ entries_from first count) }
 {
     let mut named = BTreeMap::new(alloc);
-    for n in 0..count {
-        named.insert(format!(in alloc; "{n}")?, n)?;
+    for place in 0..count {
+        let number = first + place;
+        named.insert(format!(in alloc; "{number}")?, place)?;
     }
     Ok(named)
 }
 
-fn numbers_of(alloc: Global, named: &BTreeMap<String, usize>) -> Result<Vec<usize>, AllocError>
-    ensures { IfOk result (λ numbers. numbers.items ≡ map (λ e. e.1) named.now.entries) }
+fn places_of(alloc: Global, named: &BTreeMap<String, usize>) -> Result<Vec<usize>, AllocError>
+    ensures { IfOk result (λ places. places.items ≡ map (λ e. e.1) named.now.entries) }
 {
     named.values().copied().collect(alloc)
 }
 
-/// The numbers below `count`, in byte order of their decimal texts.
-pub(crate) fn numbers_in_order(alloc: Global, count: usize) -> Result<Vec<usize>, AllocError>
-    ensures order { IfOk result (λ numbers. numbers.items ≡ numbers_below count) }
-    ensures below { IfOk result (λ numbers. All (λ n. n < count) numbers.items) }
+/// The places below `count` in byte order of the decimal texts of the numbers from `first` on.
+pub(crate) fn places_by_name(
+    alloc: Global,
+    first: usize,
+    count: usize,
+) -> Result<Vec<usize>, AllocError>
+    requires { first + count < 2 ^ 63 }
+    ensures order { IfOk result (λ places. places.items ≡ places_by_name first count) }
+    ensures below { IfOk result (λ places. All (λ p. p < count) places.items) }
 {
-    let named = named_numbers(alloc, count)?;
-    numbers_of(alloc, &named)
+    let named = named_places(alloc, first, count)?;
+    places_of(alloc, &named)
 }

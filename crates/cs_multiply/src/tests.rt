@@ -1,124 +1,64 @@
-// One register in a module, multiplied.
-ghost use Rattle.std.specs.Prelude.{◌≡◌, ◌≤◌, IfOk, length};
-ghost use Rattle.cs_multiply.specs.FirstForm.{port_bit_count};
-
-use crate::write::write_multiplied;
-use cs_base::{BitId, Contexts, Sequence, Signal, Text};
-use cs_json::{CellDecl, Datum, Direction, Document, Entry, Module, NetDecl, PinDecl, PortDecl};
-use std::alloc::{AllocError, Global};
+// Gates and registers, multiplied.
+use crate::multiply;
+use cs_base::{Contexts, Signal};
+use cs_json::{CellDecl, Document, Module, read_document};
+use cs_net::first_form;
+use std::alloc::Global;
 use std::test::Fail;
 
-fn one_bit(alloc: Global, bit: u32) -> Result<Sequence<Signal>, AllocError>
-    ensures { IfOk result (λ bits. length bits ≡ 1) }
-{
-    let mut bits = Sequence::new(alloc);
-    bits.push(Signal::Bit(BitId::new(bit)))?;
-    Ok(bits)
-}
-
-fn port(alloc: Global, name: &str, direction: Direction, bit: u32) -> Result<PortDecl, AllocError>
-    ensures { IfOk result (λ port. length port.bits ≡ 1) }
-{
-    Ok(PortDecl {
-        name: Text::from_str(alloc, name)?,
-        direction,
-        bits: one_bit(alloc, bit)?,
-    })
-}
-
-fn pin(alloc: Global, name: &str, bit: u32) -> Result<PinDecl, AllocError> {
-    Ok(PinDecl {
-        name: Text::from_str(alloc, name)?,
-        bits: one_bit(alloc, bit)?,
-        output: name == "Q",
-    })
-}
-
-fn register(alloc: Global) -> Result<CellDecl, AllocError> {
-    let pins = vec![in alloc;
-        pin(alloc, "C", 2)?,
-        pin(alloc, "D", 3)?,
-        pin(alloc, "Q", 4)?,
-    ]?;
-    Ok(CellDecl {
-        name: Text::from_str(alloc, "r")?,
-        kind: Text::from_str(alloc, "$_DFF_P_")?,
-        parameters: Sequence::new(alloc),
-        attributes: Sequence::new(alloc),
-        pins: Sequence::from_vec(pins),
-    })
-}
-
-// The net of the register's output says that it starts at 1.
-fn net(alloc: Global) -> Result<NetDecl, AllocError> {
-    let mut attributes = Sequence::new(alloc);
-    attributes.push(Entry {
-        name: Text::from_str(alloc, "init")?,
-        datum: Datum::Digits(Text::from_str(alloc, "1")?),
-    })?;
-    Ok(NetDecl {
-        name: Text::from_str(alloc, "q")?,
-        bits: one_bit(alloc, 4)?,
-        attributes,
-    })
-}
-
 // A register from port `d` to port `q`.
-fn single_register(alloc: Global) -> Result<Module, AllocError>
-    ensures cells { IfOk result (λ m. length m.cells ≤ 65536) }
-    ensures bits { IfOk result (λ m. port_bit_count m.ports ≤ 65536) }
-{
-    let clock = port(alloc, "clk", Direction::Input, 2)?;
-    let input = port(alloc, "d", Direction::Input, 3)?;
-    let output = port(alloc, "q", Direction::Output, 4)?;
-    Ok(Module {
-        name: Text::from_str(alloc, "top")?,
-        attributes: Sequence::new(alloc),
-        ports: Sequence::from_vec(vec![in alloc; clock, input, output]?),
-        cells: Sequence::from_vec(vec![in alloc; register(alloc)?]?),
-        nets: Sequence::from_vec(vec![in alloc; net(alloc)?]?),
-    })
+const REGISTER: &str =
+    "{\"modules\":{\"top\":{\"ports\":{\"clk\":{\"direction\":\"input\",\"bits\":[2]},\"d\":\
+    {\"direction\":\"input\",\"bits\":[3]},\"q\":{\"direction\":\"output\",\"bits\":[4]}},\
+    \"cells\":{\"r\":{\"type\":\"$_DFF_P_\",\"connections\":{\"C\":[2],\"D\":[3],\"Q\":[4]}}}}}}";
+
+// An and-gate, an inverter of it without a name, and a register of that, which the gate reads.
+const GATES: &str =
+    "{\"modules\":{\"top\":{\"ports\":{\"clk\":{\"direction\":\"input\",\"bits\":[2]},\"a\":\
+    {\"direction\":\"input\",\"bits\":[3]},\"y\":{\"direction\":\"output\",\"bits\":[9,7]}},\
+    \"cells\":{\"\":{\"type\":\"$_AND_\",\"connections\":{\"A\":[8],\"B\":[3],\"Y\":[9]}},\
+    \"n\":{\"type\":\"$_NOT_\",\"connections\":{\"A\":[9],\"Y\":[7]}},\
+    \"r\":{\"type\":\"$_DFF_P_\",\"connections\":{\"C\":[2],\"D\":[7],\"Q\":[8]}}}}}}";
+
+fn multiplied(alloc: Global, text: &str, contexts: u64) -> Result<Document, Fail> {
+    let document = read_document(alloc, text.as_bytes()).map_err(|_| "a document")?;
+    let net = first_form(alloc, &document)?.ok_or("a netlist of the first form")?;
+    let contexts = Contexts::new(contexts).ok_or("a number of contexts")?;
+    Ok(multiply(alloc, &net, contexts)?.ok_or("a netlist that can be multiplied")?)
+}
+
+fn only_module(document: &Document) -> Result<&Module, Fail> {
+    Ok(document.modules.as_slice().first().ok_or("a module")?)
 }
 
 fn is_bit(bits: &[Signal], number: u32) -> bool {
     matches!(bits, [Signal::Bit(bit)] if bit.get() == number)
 }
 
-fn multiplied(alloc: Global, contexts: u64) -> Result<Document, Fail> {
-    let module = single_register(alloc)?;
-    let contexts = Contexts::new(contexts).ok_or("a number of contexts")?;
-    Ok(write_multiplied(alloc, &module, contexts)?)
+fn has_pins(cell: &CellDecl, pins: &[(&str, u32)]) -> bool {
+    cell.pins.len() == pins.len()
+        && cell.pins.as_slice().iter().zip(pins.iter()).all(|(pin, (name, bit))| {
+            pin.name.as_str() == *name && is_bit(pin.bits.as_slice(), *bit)
+        })
 }
 
-// Two registers in a row, on bits 4 and 5, which start at 1.
+// Bits 2 and 3 are the inputs a and clk, 4 and 5 the gates, 6 to 8 the registers; the gate reads the last of these.
 #[test]
-fn single_register_at_c_2(rt: HostRuntime) -> Result<(), Fail> {
-    let document = multiplied(rt.alloc(), 2)?;
-    let module = document.modules.as_slice().first().ok_or("a module")?;
-    assert_eq!(rt; module.name.as_str(), "top");
-    let numbers = [("$cs$r0", "$cs$q0", 3, 4), ("$cs$r1", "$cs$q1", 4, 5)];
-    for (i, (cell_name, net_name, source, output)) in numbers.iter().enumerate() {
-        let cell = module.cells.as_slice().get(i).ok_or("a cell")?;
-        assert_eq!(rt; cell.name.as_str(), *cell_name);
-        assert_eq!(rt; cell.kind.as_str(), "$_DFF_P_");
-        let pins = [("C", 2, false), ("D", *source, false), ("Q", *output, true)];
-        for (pin, (name, bit, is_output)) in cell.pins.as_slice().iter().zip(pins.iter()) {
-            assert_eq!(rt; pin.name.as_str(), *name);
-            assert!(rt; is_bit(pin.bits.as_slice(), *bit));
-            assert_eq!(rt; pin.output, *is_output);
-        }
-        let net = module.nets.as_slice().get(i).ok_or("a net")?;
-        assert_eq!(rt; net.name.as_str(), *net_name);
-        assert!(rt; is_bit(net.bits.as_slice(), *output));
-        let init = net.attributes.as_slice().first().ok_or("a start")?;
-        assert_eq!(rt; init.name.as_str(), "init");
-        assert!(rt; matches!(&init.datum, Datum::Digits(digits) if digits.as_str() == "1"));
+fn gates_before_registers(rt: HostRuntime) -> Result<(), Fail> {
+    let document = multiplied(rt.alloc(), GATES, 3)?;
+    let module = only_module(&document)?;
+    let cells = module.cells.as_slice();
+    let names = ["$cs$g4", "$cs$g5", "$cs$r0", "$cs$r1", "$cs$r2"];
+    assert_eq!(rt; cells.len(), 5);
+    for (cell, name) in cells.iter().zip(names.iter()) {
+        assert_eq!(rt; cell.name.as_str(), *name);
     }
-    let ports = module.ports.as_slice();
-    for (port, (name, bit)) in ports.iter().zip([("clk", 2), ("d", 3), ("q", 5)].iter()) {
-        assert_eq!(rt; port.name.as_str(), *name);
-        assert!(rt; is_bit(port.bits.as_slice(), *bit));
-    }
+    assert!(rt; has_pins(&cells[0], &[("A", 8), ("B", 2), ("Y", 4)]));
+    assert!(rt; has_pins(&cells[1], &[("A", 4), ("Y", 5)]));
+    assert!(rt; has_pins(&cells[2], &[("C", 3), ("D", 5), ("Q", 6)]));
+    assert!(rt; has_pins(&cells[3], &[("C", 3), ("D", 6), ("Q", 7)]));
+    assert!(rt; cells[0].attributes.is_empty());
+    assert_eq!(rt; cells[1].attributes.len(), 1);
     Ok(())
 }
 
@@ -126,9 +66,8 @@ fn single_register_at_c_2(rt: HostRuntime) -> Result<(), Fail> {
 #[test]
 fn one_context_and_sixteen(rt: HostRuntime) -> Result<(), Fail> {
     for (contexts, last) in [(1, "$cs$r0"), (16, "$cs$r9")] {
-        let document = multiplied(rt.alloc(), contexts)?;
-        let module = document.modules.as_slice().first().ok_or("a module")?;
-        let cells = module.cells.as_slice();
+        let document = multiplied(rt.alloc(), REGISTER, contexts)?;
+        let cells = only_module(&document)?.cells.as_slice();
         assert_eq!(rt; cells.len() as u64, contexts);
         let cell = cells.last().ok_or("a cell")?;
         assert_eq!(rt; cell.name.as_str(), last);

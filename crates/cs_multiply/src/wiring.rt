@@ -1,60 +1,59 @@
-// Where each bit of a module stands in the module that is written.
-ghost use Rattle.std.specs.Prelude.{◌≡◌, ◌+◌, ◌-◌, ◌*◌, ◌<◌, ◌≤◌, IfOk, length, map};
+// Where each bit of a netlist stands in the circuit that is written.
+ghost use Rattle.std.specs.Prelude.{◌≡◌, ◌+◌, ◌-◌, ◌*◌, ◌<◌, ◌≤◌, IfOk, None, length, map, true};
 ghost use Rattle.cs_base.specs.declared.signal.Signal.TheVariants.{Bit};
-ghost use Rattle.cs_net.specs.Conditions.{input_bits};
-ghost use Rattle.cs_multiply.specs.FirstForm.{port_bit_count};
-ghost use Rattle.cs_multiply.specs.Written.{outputs as output_bits, register_bit, wire_of, written_port, written_signal};
+ghost use Rattle.cs_net.specs.Places.{place_of};
+ghost use Rattle.cs_multiply.specs.Written.{can_multiply, gate_outputs as gate_signals, port_inputs as input_signals, register_number, register_outputs, wire_by, wire_of, written_signal};
 
-use crate::first_places::Places;
-use crate::registers::input_bits;
-use cs_base::{BitId, Contexts, Sequence, Signal};
-use cs_json::{Module, PortDecl};
+use crate::parts::{gate_outputs, port_inputs, register_signals};
+use cs_base::{BitId, Contexts, Signal};
+use cs_net::{Netlist, Places};
 use std::alloc::{AllocError, Global};
 
-/// The bits of a module: from 2 on those of the input ports, then those of the registers that are written.
+/// The bits of a netlist by what drives them.
 #[derive(Drop)]
 pub(crate) struct Wiring<'a> {
-    pub(crate) source: &'a Module,
+    pub(crate) net: &'a Netlist,
     pub(crate) contexts: Contexts,
-    input_places: Places,
-    output_places: Places,
-    ghost few_inputs: { length input_places ≤ 65536 },
-    ghost few_outputs: { length output_places ≤ 65536 },
-    ghost inputs_are: { input_places ≡ input_bits source.now },
-    ghost outputs_are: { output_places ≡ output_bits source.now },
+    pub(crate) inputs: Places,
+    pub(crate) gates: Places,
+    pub(crate) registers: Places,
+    ghost inputs_are: { inputs ≡ input_signals net.now },
+    ghost gates_are: { gates ≡ gate_signals net.now },
+    ghost registers_are: { registers ≡ register_outputs net.now },
+    ghost few_inputs: { length inputs ≤ 65536 },
+    ghost few_cells: { length gates + length registers ≤ 65536 },
 }
 
 impl<'a> Wiring<'a> {
-    /// The wiring of a module whose registers drive these signals.
+    /// The wiring of a netlist that can be multiplied.
     pub(crate) fn new(
         alloc: Global,
-        source: &'a Module,
+        net: &'a Netlist,
         contexts: Contexts,
-        outputs: Vec<Signal>,
     ) -> Result<Self, AllocError>
-        requires cells { length source.now.cells ≤ 65536 }
-        requires bits { port_bit_count source.now.ports ≤ 65536 }
-        requires outputs { outputs.items ≡ output_bits source.now }
-        ensures of { IfOk result (λ wiring. wiring.source.now ≡ source.now) }
+        requires { can_multiply net.now ≡ true }
+        ensures of { IfOk result (λ wiring. wiring.net.now ≡ net.now) }
         ensures contexts { IfOk result (λ wiring. wiring.contexts ≡ contexts) }
     {
-        let inputs = input_bits(alloc, source.ports.as_slice())?;
-        let input_places = Places::among(alloc, inputs)?;
-        let output_places = Places::among(alloc, outputs)?;
+        let inputs = port_inputs(alloc, net.ports())?;
+        let gates = gate_outputs(alloc, net.cells())?;
+        let registers = register_signals(alloc, "Q", net.cells())?;
         Ok(Wiring {
-            source,
+            net,
             contexts,
-            input_places,
-            output_places,
+            inputs: Places::among(alloc, inputs)?,
+            gates: Places::among(alloc, gates)?,
+            registers: Places::among(alloc, registers)?,
         })
     }
 
     /// The output of a register that is written.
     pub(crate) fn register_output(&self, n: usize) -> Signal
         requires { n < 1048576 }
-        ensures { result ≡ Bit (register_bit self.now.source.now n) }
+        ensures { result ≡ Bit (register_number self.now.net.now n) }
     {
-        Signal::Bit(BitId::new((2 + self.input_places.len() + n) as u32))
+        let first = 2 + self.inputs.len() + self.gates.len();
+        Signal::Bit(BitId::new((first + n) as u32))
     }
 
     // The last of the registers in series for a register that is read.
@@ -67,21 +66,31 @@ impl<'a> Wiring<'a> {
         register * count + (count - 1)
     }
 
-    fn wire(&self, bit: BitId) -> Signal
-        ensures { result ≡ wire_of self.now.source.now self.now.contexts bit }
+    fn cell_output(&self, bit: BitId) -> Signal
+        ensures { result ≡ wire_by self.now.net.now self.now.contexts None
+            (place_of bit (gate_signals self.now.net.now)) (place_of bit (register_outputs self.now.net.now)) }
     {
-        if let Some(place) = self.input_places.place(bit) {
-            return Signal::Bit(BitId::new((2 + place) as u32));
+        if let Some(place) = self.gates.place(bit) {
+            return Signal::Bit(BitId::new((2 + self.inputs.len() + place) as u32));
         }
-        match self.output_places.place(bit) {
+        match self.registers.place(bit) {
             Some(register) => self.register_output(self.last_stage(register)),
             None => Signal::Zero,
         }
     }
 
+    fn wire(&self, bit: BitId) -> Signal
+        ensures { result ≡ wire_of self.now.net.now self.now.contexts bit }
+    {
+        match self.inputs.place(bit) {
+            Some(place) => Signal::Bit(BitId::new((2 + place) as u32)),
+            None => self.cell_output(bit),
+        }
+    }
+
     /// A signal as it is written.
     pub(crate) fn written(&self, signal: Signal) -> Signal
-        ensures { result ≡ written_signal self.now.source.now self.now.contexts signal }
+        ensures { result ≡ written_signal self.now.net.now self.now.contexts signal }
     {
         match signal {
             Signal::One => Signal::One,
@@ -97,39 +106,11 @@ impl<'a> Wiring<'a> {
         signals: &[Signal],
     ) -> Result<Vec<Signal>, AllocError>
         ensures { IfOk result (λ written. written.items
-            ≡ map (written_signal self.now.source.now self.now.contexts) signals.now) }
+            ≡ map (written_signal self.now.net.now self.now.contexts) signals.now) }
     {
         let mut written = Vec::new(alloc);
         for signal in signals {
             written.push(self.written(*signal))?;
-        }
-        Ok(written)
-    }
-
-    fn port(&self, alloc: Global, port: &PortDecl) -> Result<PortDecl, AllocError>
-        ensures { IfOk result (λ written. written
-            ≡ written_port self.now.source.now self.now.contexts port.now) }
-    {
-        let bits = self.all_written(alloc, port.bits.as_slice())?;
-        Ok(PortDecl {
-            name: port.name.copy(alloc)?,
-            direction: port.direction,
-            bits: Sequence::from_vec(bits),
-        })
-    }
-
-    /// Ports as they are written.
-    pub(crate) fn ports(
-        &self,
-        alloc: Global,
-        ports: &[PortDecl],
-    ) -> Result<Sequence<PortDecl>, AllocError>
-        ensures { IfOk result (λ written. written
-            ≡ map (written_port self.now.source.now self.now.contexts) ports.now) }
-    {
-        let mut written = Sequence::new(alloc);
-        for port in ports {
-            written.push(self.port(alloc, port)?)?;
         }
         Ok(written)
     }

@@ -6,5 +6,12 @@ pub mod TopModule
 pub mod Values
 pub mod Traces
 pub mod Answering
+pub mod FirstPlaces
+pub mod FirstValues
+pub mod FirstFormLemmas
+pub mod PlainNets
+pub mod GateOrder
+pub mod LogicModules
+pub mod FirstFormNets
 mod Examples
 pub mod WidthLemmas

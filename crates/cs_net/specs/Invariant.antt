@@ -1,14 +1,22 @@
 -- What each netlist keeps.
-use Rattle.std.specs.Prelude.{◌≡◌, ℕ, length}
+use Rattle.std.specs.Prelude.{◌≡◌, ℕ, None}
+use Rattle.cs_json.specs.declared.document.Module.{Module}
+use Rattle.cs_json.specs.Readable.{IsModule}
 use Rattle.cs_net.specs.Netlist.{Net}
 use Rattle.cs_net.specs.Drivers.{IsOrder}
+use Rattle.cs_net.specs.Conditions.{early_refusal, reserved}
+use Rattle.cs_net.specs.Build.{net_of}
 
 -- some place for each bit, after those that it depends on
 pub record HasOrder (net : Net) : Type 0 where
   pub place : ℕ → ℕ
   pub order : IsOrder net place
 
--- each cell has an entry for a shape, and gates and unclocked reads form no loop
+-- it is the netlist of a readable module that no condition refuses, and gates and unclocked reads form no loop
 pub record IsWellFormed (net : Net) : Type 0 where
-  pub shapes : length net.shapes ≡ length net.cells
+  pub «module» : Module
+  pub readable : IsModule «module»
+  pub early : early_refusal «module» ≡ None
+  pub not_reserved : reserved «module» ≡ None
+  pub is : net ≡ net_of «module»
   pub order : HasOrder net

@@ -2,11 +2,14 @@ pub mod Digits
 pub mod Pins
 pub mod Netlist
 pub mod Drivers
+pub mod Places
 pub mod Conditions
 pub mod PinBits
+pub mod Starts
 pub mod Build
 pub mod Accept
 pub mod Invariant
+pub mod FirstForm
 pub mod Trace
 pub mod Contexts
 pub mod Isolates

@@ -17,4 +17,4 @@ pub(crate) use constants::{const_z, is_output, name_at};
 pub(crate) use drivers::{driven_numbers, input_numbers, numbers_in, two_drivers};
 pub(crate) use pins::bad_pins;
 pub(crate) use ports::{inout, reserved};
-pub(crate) use starts::two_starts;
+pub(crate) use starts::{is_register, pin_bits, two_starts};

@@ -69,7 +69,7 @@ pub(crate) fn datum_at<'a>(name: &str, entries: &'a [Entry]) -> Option<&'a Datum
 
 /// The digits of the attribute or parameter of a name, each a character or its first byte, the least significant
 /// first, and none where it is missing. It errs only where memory runs out.
-pub fn digits_at(alloc: Global, name: &str, entries: &[Entry]) -> Result<Vec<u8>, AllocError>
+pub(crate) fn digits_at(alloc: Global, name: &str, entries: &[Entry]) -> Result<Vec<u8>, AllocError>
     ensures { IfOk result (λ v. v.items ≡ digits_at name.now entries.now) }
 {
     match datum_at(name, entries) {
@@ -93,7 +93,7 @@ pub(crate) fn is_nonzero(digits: &[u8]) -> bool
 }
 
 /// What digit i of an `init` says of its bit.
-pub fn init_digit(digits: &[u8], i: usize) -> Option<bool>
+pub(crate) fn init_digit(digits: &[u8], i: usize) -> Option<bool>
     ensures { result ≡ init_digit digits.now i }
 {
     if i >= digits.len() {

@@ -1,12 +1,16 @@
 // An accepted netlist.
-ghost use Rattle.std.specs.Prelude.{◌≡◌, ◌<◌, length, slice_get, Some};
+ghost use Rattle.std.specs.Prelude.{◌≡◌, ◌<◌, bytes_eq, find, length, slice_get, Some};
+ghost use Rattle.std.specs.Option.{option_copied};
+ghost use Rattle.cs_net.specs.Drivers.{bits_of, signal_of};
 ghost use Rattle.cs_net.specs.Netlist.{Net, bit_at};
 ghost use Rattle.cs_net.specs.Invariant.{IsWellFormed};
+ghost use Rattle.cs_net.specs.Starts.{noted_value};
 
 use crate::state::{BitValue, MemoryWords};
 use cs_base::{BitId, Sequence, Signal, Text};
 use cs_cells::{Class, MemShape};
 use cs_json::Direction;
+use std::collections::HashMap;
 use std::marker::Model;
 
 /// A cell with its class and its pins, in order of their names.
@@ -15,6 +19,31 @@ pub struct Cell {
     pub name: Text,
     pub class: Class,
     pub pins: Sequence<PinBits>,
+}
+
+impl Cell {
+    /// The bits of the pin of a name, and none where it is missing.
+    pub fn bits(&self, name: &str) -> &[Signal]
+        ensures { result.now ≡ bits_of self.now name.now }
+    {
+        match pin_named(self.pins.as_slice(), name) {
+            Some(pin) => pin.bits.as_slice(),
+            None => &[],
+        }
+    }
+
+    /// The signal of a pin of one bit, and 0 where it is missing.
+    pub fn signal(&self, name: &str) -> Signal
+        ensures { result ≡ signal_of self.now name.now }
+    {
+        self.bits(name).first().copied().unwrap_or(Signal::Zero)
+    }
+}
+
+fn pin_named<'a>(pins: &'a [PinBits], name: &str) -> Option<&'a PinBits>
+    ensures { option_copied result ≡ find (λ p. bytes_eq p.name name.now) pins.now }
+{
+    pins.iter().find(|pin| pin.name.as_str() == name)
 }
 
 /// A pin and what each of its bits is connected to, least significant first.
@@ -40,15 +69,17 @@ pub struct Clock {
 }
 
 /// An accepted netlist.
-#[derive(Debug, Drop)]
+#[derive(Drop)]
 pub struct Netlist {
-    name: Text,
-    ports: Sequence<Port>,
-    cells: Sequence<Cell>,
-    shapes: Sequence<Option<MemShape>>,
-    clock: Option<Clock>,
-    starts: Sequence<BitValue>,
-    memories: Sequence<MemoryWords>,
+    pub(crate) name: Text,
+    pub(crate) ports: Sequence<Port>,
+    pub(crate) cells: Sequence<Cell>,
+    pub(crate) shapes: Sequence<Option<MemShape>>,
+    pub(crate) clock: Option<Clock>,
+    pub(crate) starts: Sequence<BitValue>,
+    pub(crate) memories: Sequence<MemoryWords>,
+    /// The starts by the numbers of their bits.
+    pub(crate) start_values: HashMap<u32, bool>,
 }
 
 impl Model for Netlist {
@@ -58,13 +89,18 @@ impl Model for Netlist {
 
     ghost view = { λ n. record { name = n.name; ports = n.ports; cells = n.cells; shapes = n.shapes; clock = n.clock; starts = n.starts; memories = n.memories } };
 
+    ghost use Rattle.std.specs.Prelude.{◌≡◌, ℕ};
     ghost use Rattle.cs_net.specs.Invariant.{IsWellFormed};
+    ghost use Rattle.cs_net.specs.Netlist.{bit_at};
+    ghost use Rattle.cs_net.specs.Starts.{noted_value};
 
-    ghost invariant = { λ n. IsWellFormed (record { name = n.name; ports = n.ports; cells = n.cells; shapes = n.shapes; clock = n.clock; starts = n.starts; memories = n.memories }) };
+    ghost invariant = { λ n.
+        IsWellFormed (record { name = n.name; ports = n.ports; cells = n.cells; shapes = n.shapes; clock = n.clock; starts = n.starts; memories = n.memories })
+        × ((b : ℕ) → noted_value n.start_values b ≡ bit_at n.starts b) };
 }
 
 impl Netlist {
-    /// What every netlist keeps: no loop of gates and unclocked reads.
+    /// What every netlist keeps: it is that of a module that no condition refuses.
     pub fn keeps(&self)
         ensures { IsWellFormed self.now }
     {
@@ -90,6 +126,13 @@ impl Netlist {
         &self.cells.as_slice()[i]
     }
 
+    /// The cells, in order of their names.
+    pub fn cells(&self) -> &[Cell]
+        ensures { result.now ≡ self.now.cells }
+    {
+        self.cells.as_slice()
+    }
+
     pub fn port_count(&self) -> usize
         ensures { result ≡ length self.now.ports }
     {
@@ -103,6 +146,13 @@ impl Netlist {
         &self.ports.as_slice()[i]
     }
 
+    /// The ports, in order of their names.
+    pub fn ports(&self) -> &[Port]
+        ensures { result.now ≡ self.now.ports }
+    {
+        self.ports.as_slice()
+    }
+
     pub fn clock(&self) -> Option<Clock>
         ensures { result ≡ self.now.clock }
     {
@@ -113,11 +163,6 @@ impl Netlist {
     pub fn start(&self, bit: BitId) -> bool
         ensures { result ≡ bit_at self.now.starts bit }
     {
-        self.starts
-            .as_slice()
-            .iter()
-            .find(|s| s.bit.get() == bit.get())
-            .map(|s| s.value)
-            .unwrap_or(false)
+        self.start_values.get(&bit.get()).copied().unwrap_or(false)
     }
 }

@@ -24,7 +24,7 @@ use std::alloc::{AllocError, Global};
 /// edges, a clock that is read as data, two starts of one register, or a port with a reserved name. It errs only where
 /// memory runs out.
 #[tactic(auto, unfolding(crate::specs::Refusal::wiring_refusal))]
-pub fn wiring_refusal(alloc: Global, top: &Module) -> Result<Option<NetError>, AllocError>
+pub(crate) fn wiring_refusal(alloc: Global, top: &Module) -> Result<Option<NetError>, AllocError>
     ensures { IfOk result (λ found. found ≡ wiring_refusal top.now) }
 {
     if let Some(error) = bad_pins(alloc, top)? {
@@ -95,6 +95,15 @@ fn input_set(alloc: Global, top: &Module) -> Result<IndexSet<u32>, AllocError>
     let numbers = input_numbers(alloc, top.ports.as_slice())?;
     let set = number_set(alloc, numbers.as_slice())?;
     Ok(set)
+}
+
+/// The clock of a module.
+pub(crate) fn clock_of(alloc: Global, top: &Module) -> Result<Option<Clock>, AllocError>
+    ensures { IfOk result (λ found. found ≡ clock_of top.now) }
+{
+    let bits = bits_of_cells(alloc, top.cells.as_slice())?;
+    let pins = clock_bits(alloc, bits.as_slice())?;
+    Ok(clock(top, pins.as_slice()))
 }
 
 // The clock of a module, by its clock pins.

@@ -1,12 +1,13 @@
 -- What `slow` answers to the bytes of its file.
 use Rattle.std.specs.Prelude.{ℕ, ◌≡◌, List, [], ◌∷◌, Option, None, MatchOption}
-use Rattle.std.specs.Option.{option_map}
+use Rattle.std.specs.Option.{option_map, option_and_then}
 use Rattle.cs_io.specs.Stores.{Files}
-use Rattle.cs_json.specs.declared.document.Module.{Module}
 use Rattle.cs_json.specs.Shape.{Reading, NoJson, RefusedAt, Says, document}
 use Rattle.cs_json.specs.Printed.{printed}
-use Rattle.cs_multiply.specs.FirstForm.{first_form}
-use Rattle.cs_multiply.specs.Written.{written_document}
+use Rattle.cs_multiply.specs.Written.{multiplied_document}
+use Rattle.cs_net.specs.Build.{net_of}
+use Rattle.cs_net.specs.FirstForm.{first_form}
+use Rattle.cs_net.specs.Netlist.{Net}
 use Rattle.cs_report.specs.declared.fault.Fault.TheVariants.{NotBuilt as NothingBuilt}
 use Rattle.cs_report.specs.FaultLines.{fault_line}
 use Rattle.cs_words.specs.declared.command.SlowWords.{SlowWords}
@@ -16,15 +17,15 @@ use Rattle.cs_run.specs.Bytes.{BytesIsolate}
 use Rattle.cs_run.specs.Inputs.{AfterReading}
 use Rattle.cs_run.specs.Replies.{refusal}
 
--- the module that bytes say, where it is the only one and has the first form
-abbrev pub form_of : Reading → Option Module
+-- the netlist that bytes say, where they have the first form
+abbrev pub form_of : Reading → Option Net
 form_of NoJson = None
 form_of (RefusedAt place) = None
-form_of (Says doc) = first_form doc
+form_of (Says doc) = option_map net_of (first_form doc)
 
 -- the bytes of OUT for so many contexts and the bytes of IN, where these have a form that is built
 unfoldable pub written : ℕ → List ℕ → Option (List ℕ)
-written contexts bytes = option_map (λ m. printed (written_document m contexts)) (form_of (document bytes))
+written contexts bytes = option_map printed (option_and_then (multiplied_document contexts) (form_of (document bytes)))
 
 -- OUT is written with these bytes, and nothing is put
 abbrev pub done : SlowWords → List ℕ → Reply

@@ -2,7 +2,7 @@
 ghost use Rattle.std.specs.Prelude.{◌≡◌, IfOk, IfSome, MatchOption, option_map, None};
 ghost use Rattle.cs_json.specs.Readable.{IsReadable};
 ghost use Rattle.cs_json.specs.Shape.{document, Says};
-ghost use Rattle.cs_run.specs.Bytes.{BytesIsolate};
+ghost use Rattle.cs_run.specs.Bytes.{BytesIsolate, IsNetOf};
 ghost use Rattle.cs_run.specs.Slow.{AnswersBytes, form_of, written};
 ghost use Rattle.cs_run.specs.Outcomes.{HasOutcome};
 ghost use Rattle.cs_words.specs.declared.command.Command.TheVariants.{Slow};
@@ -14,6 +14,7 @@ use cs_base::{Contexts, Sequence};
 use cs_io::Store;
 use cs_json::{DocError, Document, print_document, read_document};
 use cs_multiply::multiply;
+use cs_net::{Netlist, first_form};
 use cs_report::Fault;
 use cs_words::SlowWords;
 use std::alloc::{AllocError, Global};
@@ -55,14 +56,24 @@ fn write_netlist(
     ensures bytes { IfOk result (λ netlist. option_map (λ v. v.items) netlist ≡ written contexts bytes.now) }
     ensures isolates { IfOk result (λ netlist. IfSome netlist (λ v. BytesIsolate contexts bytes.now v.items)) }
 {
-    let Some(doc) = document_of(alloc, bytes)? else {
+    let Some(netlist) = netlist_of(alloc, bytes)? else {
         return Ok(None);
     };
-    let Some(written) = multiply(alloc, &doc, contexts)? else {
+    let Some(document) = multiply(alloc, &netlist, contexts)? else {
         return Ok(None);
     };
-    let text = print_document(alloc, &written)?;
-    Ok(Some(text))
+    Ok(Some(print_document(alloc, &document)?))
+}
+
+// The netlist that bytes say, and None where they have no form that is built.
+fn netlist_of(alloc: Global, bytes: &[u8]) -> Result<Option<Netlist>, AllocError>
+    ensures form { IfOk result (λ found. found ≡ form_of (document bytes.now)) }
+    ensures is { IfOk result (λ found. IfSome found (IsNetOf bytes.now)) }
+{
+    match document_of(alloc, bytes)? {
+        Some(doc) => first_form(alloc, &doc),
+        None => Ok(None),
+    }
 }
 
 // The document that bytes say, and None where they say none.

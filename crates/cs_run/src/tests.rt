@@ -1,6 +1,6 @@
 use crate::run;
 use cs_io::{MemSink, MemStore};
-use cs_json::read_document;
+use cs_json::{Datum, read_document};
 use std::alloc::{AllocError, Global};
 use std::test::Fail;
 
@@ -34,6 +34,30 @@ const INVERTER: &str =
     \"port_directions\":{\"A\":\"input\",\"Y\":\"output\"},\
     \"connections\":{\"A\":[2],\"Y\":[3]}}}}}}";
 
+// That inverter in three contexts.
+const WRITTEN_INVERTER: &str =
+    "{\"creator\":\"cslow\",\"modules\":{\"top\":{\"attributes\":{\"top\":\
+    \"00000000000000000000000000000001\"},\"cells\":{\"$cs$g3\":{\"attributes\":\
+    {\"cslow_cell\":\"g\"},\"connections\":{\"A\":[2],\"Y\":[3]},\"hide_name\":1,\
+    \"parameters\":{},\"port_directions\":{\"A\":\"input\",\"Y\":\"output\"},\
+    \"type\":\"$_NOT_\"}},\"netnames\":{},\"ports\":{\"a\":{\"bits\":[2],\
+    \"direction\":\"input\"},\"y\":{\"bits\":[3],\"direction\":\"output\"}}}}}\n";
+
+// A buffer.
+const BUFFER: &str =
+    "{\"modules\":{\"top\":{\"ports\":{\"a\":{\"direction\":\"input\",\"bits\":[2]},\
+    \"y\":{\"direction\":\"output\",\"bits\":[3]}},\"cells\":{\"g\":{\"type\":\"$_BUF_\",\
+    \"port_directions\":{\"A\":\"input\",\"Y\":\"output\"},\
+    \"connections\":{\"A\":[2],\"Y\":[3]}}}}}}";
+
+// An and-gate of the input and a register that takes it, with the start 1.
+const GATED_LOOP: &str =
+    "{\"modules\":{\"top\":{\"ports\":{\"clk\":{\"direction\":\"input\",\"bits\":[2]},\"a\":\
+    {\"direction\":\"input\",\"bits\":[3]},\"y\":{\"direction\":\"output\",\"bits\":[5]}},\
+    \"cells\":{\"g\":{\"type\":\"$_AND_\",\"connections\":{\"A\":[3],\"B\":[4],\"Y\":[5]}},\
+    \"r\":{\"type\":\"$_DFF_P_\",\"connections\":{\"C\":[2],\"D\":[5],\"Q\":[4]}}},\
+    \"netnames\":{\"q\":{\"bits\":[4],\"attributes\":{\"init\":\"1\"}}}}}}";
+
 fn texts(alloc: Global, words: &[&str]) -> Result<Vec<String>, AllocError> {
     let mut texts = Vec::new(alloc);
     for word in words {
@@ -60,6 +84,44 @@ fn single_register_in_two_contexts(rt: HostRuntime) -> Result<(), Fail> {
     assert!(rt; store.file("out") == Some(TWO_REGISTERS.as_bytes()));
     assert!(rt; store.file("cert").is_none());
     assert!(rt; out.bytes().is_empty());
+    Ok(())
+}
+
+#[test]
+fn inverter_in_three_contexts(rt: HostRuntime) -> Result<(), Fail> {
+    let alloc = rt.alloc();
+    let mut store = MemStore::new(alloc);
+    let mut out = MemSink::new(alloc);
+    assert!(rt; store.add("in", INVERTER.as_bytes()).is_ok());
+    let words = slow_words(alloc, "3")?;
+    assert_eq!(rt; run(&rt, &words, &mut store, &mut out), 0);
+    assert!(rt; store.file("out") == Some(WRITTEN_INVERTER.as_bytes()));
+    Ok(())
+}
+
+// Both registers start at 1, and what is written is a netlist that is read and written again.
+#[test]
+fn gated_loop_in_two_contexts(rt: HostRuntime) -> Result<(), Fail> {
+    let alloc = rt.alloc();
+    let mut store = MemStore::new(alloc);
+    let mut out = MemSink::new(alloc);
+    assert!(rt; store.add("in", GATED_LOOP.as_bytes()).is_ok());
+    let words = slow_words(alloc, "2")?;
+    assert_eq!(rt; run(&rt, &words, &mut store, &mut out), 0);
+    let bytes = store.file("out").ok_or("a file")?;
+    let document = read_document(alloc, bytes).map_err(|_| "a document")?;
+    let module = document.modules.as_slice().first().ok_or("a module")?;
+    assert_eq!(rt; module.nets.len(), 2);
+    for net in module.nets.as_slice() {
+        let init = net.attributes.as_slice().first().ok_or("a start")?;
+        assert!(rt; matches!(&init.datum, Datum::Digits(digits) if digits.as_str() == "1"));
+    }
+    let again = texts(
+        alloc,
+        &["slow", "out", "again", "cert", "delays", "-c", "1"],
+    )?;
+    assert_eq!(rt; run(&rt, &again, &mut store, &mut out), 0);
+    assert!(rt; store.file("again").is_some());
     Ok(())
 }
 
@@ -147,7 +209,7 @@ fn a_read_and_a_put_fail(rt: HostRuntime) -> Result<(), Fail> {
 #[test]
 fn another_form_is_not_built(rt: HostRuntime) -> Result<(), Fail> {
     let alloc = rt.alloc();
-    for document in ["{}", INVERTER] {
+    for document in ["{}", BUFFER] {
         let mut store = MemStore::new(alloc);
         let mut out = MemSink::new(alloc);
         assert!(rt; store.add("in", document.as_bytes()).is_ok());

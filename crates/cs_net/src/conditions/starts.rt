@@ -63,7 +63,8 @@ pub(crate) fn pin_bits<'a>(pins: &'a [PinDecl], name: &str) -> &'a [Signal]
     }
 }
 
-fn is_register(cell: &CellDecl) -> bool
+/// Whether a cell is a register.
+pub(crate) fn is_register(cell: &CellDecl) -> bool
     ensures { result ≡ is_register (class_at cell.now) }
 {
     matches!(class_at(cell), Class::Register(_))

@@ -1,14 +1,27 @@
-use Rattle.std.proofs.Common.{sym, ap, ◌∙◌}
-use Rattle.std.specs.Prelude.{option_map}
-use Rattle.cs_multiply.proofs.FirstFormLaw.{form_facts}
+use Rattle.std.proofs.Common.{rules, ◌≡◌, ◌+◌, ◌<◌, ◌^◌, length, true, subst, sym, ap, ◌∙◌}
+use Rattle.cs_json.specs.declared.document.Document.{Document}
+use Rattle.cs_multiply.specs.declared.circuit.Circuit.{Circuit}
+use Rattle.cs_multiply.specs.Circuits.{circuit_document, input_count}
+use Rattle.cs_multiply.specs.Multiplied.{IsMultiplied}
+use Rattle.cs_multiply.specs.Written.{can_multiply}
+use Rattle.cs_multiply.proofs.Carried.{plain_is_multiplied}
+use Rattle.cs_multiply.proofs.Few.{few_bits, few_names}
 use Rattle.cs_multiply.proofs.document.multiply.Goals as goal
 
--- src/document.rt:33:19
-pub write_multiplied-requires-clause-cells : goal.write_multiplied-requires-clause-cells
-write_multiplied-requires-clause-cells c =
-    (form_facts c.args.doc.now c.in-Some.module.now c.requires (sym c.in_ok-module.ensures ∙ ap (option_map (λ m. m.now)) c.in-Some.is)).few_cells
+pub circuit_document-requires-clause-bits : goal.circuit_document-requires-clause-bits
+circuit_document-requires-clause-bits c =
+    let can : can_multiply c.args.net.now ≡ true = search rules in
+    subst (λ (k : Circuit). 2 + input_count k + length k.gates + length k.registers < 2 ^ 32) (sym c.in_ok-circuit.ensures)
+    (few_bits c.args.net.now c.args.contexts c.keeps.ensures can c.get-count.ensures.some c.get-count.ensures.few)
 
--- src/document.rt:33:19
-pub write_multiplied-requires-clause-bits : goal.write_multiplied-requires-clause-bits
-write_multiplied-requires-clause-bits c =
-    (form_facts c.args.doc.now c.in-Some.module.now c.requires (sym c.in_ok-module.ensures ∙ ap (option_map (λ m. m.now)) c.in-Some.is)).few_bits
+pub circuit_document-requires-clause-names : goal.circuit_document-requires-clause-names
+circuit_document-requires-clause-names c =
+    let can : can_multiply c.args.net.now ≡ true = search rules in
+    subst (λ (k : Circuit). k.first_name + length k.gates < 2 ^ 63) (sym c.in_ok-circuit.ensures)
+    (few_names c.args.net.now c.args.contexts c.keeps.ensures can c.get-count.ensures.some c.get-count.ensures.few)
+
+pub returns-clause-isolates : goal.returns-clause-isolates
+returns-clause-isolates c =
+    let can : can_multiply c.args.net.now ≡ true = search rules in
+    subst (λ (doc : Document). IsMultiplied c.args.net.now doc c.args.contexts) (sym (c.in_ok-circuit_document.ensures ∙ ap circuit_document c.in_ok-circuit.ensures))
+    (plain_is_multiplied c.args.net.now c.args.contexts c.keeps.ensures can c.get-count.ensures.some c.get-count.ensures.few)

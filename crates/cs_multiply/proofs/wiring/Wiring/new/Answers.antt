@@ -1,22 +1,24 @@
-use Rattle.std.proofs.Common.{◌≡◌, ap, ◌∙◌}
-use Rattle.std.specs.Prelude.{filter, flat_map}
-use Rattle.cs_json.specs.declared.document.PortDecl.{PortDecl}
-use Rattle.cs_net.specs.Conditions.{input_bits}
-use Rattle.cs_net.specs.Drivers.{is_input}
-use Rattle.cs_multiply.specs.Written.{outputs}
+use Rattle.std.proofs.Common.{rules, ◌≡◌, ◌+◌, ◌≤◌, length, List, map, ap, ◌∙◌, codes, subst, sym}
+use Rattle.std.specs.Prelude.{filter}
+use Rattle.cs_net.specs.declared.netlist.Cell.{Cell}
+use Rattle.cs_net.specs.Drivers.{signal_of}
+use Rattle.cs_multiply.specs.Written.{port_inputs, gate_outputs, is_register, register_outputs}
 use Rattle.cs_multiply.proofs.Few.{few_inputs, few_outputs}
 use Rattle.cs_multiply.proofs.wiring.Wiring.new.Goals as goal
 
 pub invariant_of-result : goal.invariant_of-result
 invariant_of-result c =
-    let m = c.args.source.now in
-    let inputs : c.in_ok-input_places.input_places ≡ input_bits m =
-    c.in_ok-input_places.ensures ∙ c.in_ok-inputs.ensures
-    ∙ ap (λ ports. flat_map (λ (p : PortDecl). p.bits) (filter (λ (p : PortDecl). is_input p.direction) ports)) c.as_slice.ensures in
-    let outs : c.in_ok-output_places.output_places ≡ outputs m = c.in_ok-output_places.ensures ∙ c.requires.outputs in
+    let net = c.args.net.now in
+    let inputs : c.in_ok-among.field-0 ≡ port_inputs net = search rules in
+    let gates : c.in_ok-among-2.field-0 ≡ gate_outputs net = search rules in
+    let registers : c.in_ok-among-3.field-0 ≡ register_outputs net =
+    c.in_ok-among-3.ensures ∙ c.in_ok-registers.ensures
+    ∙ ap (λ (cells : List Cell). map (λ (cell : Cell). signal_of cell (codes "Q")) (filter (λ cell. is_register cell.class) cells)) c.cells-2.ensures in
     record {
-      few_inputs = few_inputs m c.in_ok-input_places.input_places inputs c.requires.bits;
-      few_outputs = few_outputs m c.in_ok-output_places.output_places outs c.requires.cells;
       inputs_are = inputs;
-      outputs_are = outs;
+      gates_are = gates;
+      registers_are = registers;
+      few_inputs = subst (λ xs. length xs ≤ 65536) (sym inputs) (few_inputs net c.requires);
+      few_cells = subst (λ xs. length xs + length c.in_ok-among-3.field-0 ≤ 65536) (sym gates)
+          (subst (λ xs. length (gate_outputs net) + length xs ≤ 65536) (sym registers) (few_outputs net c.requires));
     }

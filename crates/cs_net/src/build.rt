@@ -1,0 +1,94 @@
+// The netlist of a module that no condition refuses and that has no memory.
+ghost use Rattle.std.specs.Prelude.{◌≡◌, IfOk, None, map, replicate};
+ghost use Rattle.cs_net.specs.Build.{cell_of, pin_of, port_of};
+ghost use Rattle.cs_net.specs.Conditions.{cells_in};
+
+use crate::conditions::{class_at, is_scope};
+use crate::netlist::{Cell, PinBits, Port};
+use cs_base::{Sequence, Signal};
+use cs_cells::MemShape;
+use cs_json::{CellDecl, PinDecl, PortDecl};
+use std::alloc::{AllocError, Global};
+
+fn signals(alloc: Global, bits: &[Signal]) -> Result<Sequence<Signal>, AllocError>
+    ensures { IfOk result (λ made. made ≡ bits.now) }
+{
+    Ok(Sequence::from_vec(Vec::from_slice(alloc, bits)?))
+}
+
+fn port(alloc: Global, port: &PortDecl) -> Result<Port, AllocError>
+    ensures { IfOk result (λ made. made ≡ port_of port.now) }
+{
+    Ok(Port {
+        name: port.name.copy(alloc)?,
+        direction: port.direction,
+        bits: signals(alloc, port.bits.as_slice())?,
+    })
+}
+
+/// The ports of a netlist.
+pub(crate) fn ports(alloc: Global, ports: &[PortDecl]) -> Result<Sequence<Port>, AllocError>
+    ensures { IfOk result (λ made. made ≡ map port_of ports.now) }
+{
+    let mut made = Sequence::new(alloc);
+    for decl in ports {
+        made.push(port(alloc, decl)?)?;
+    }
+    Ok(made)
+}
+
+fn pin(alloc: Global, pin: &PinDecl) -> Result<PinBits, AllocError>
+    ensures { IfOk result (λ made. made ≡ pin_of pin.now) }
+{
+    Ok(PinBits {
+        name: pin.name.copy(alloc)?,
+        bits: signals(alloc, pin.bits.as_slice())?,
+    })
+}
+
+fn pins(alloc: Global, pins: &[PinDecl]) -> Result<Sequence<PinBits>, AllocError>
+    ensures { IfOk result (λ made. made ≡ map pin_of pins.now) }
+{
+    let mut made = Sequence::new(alloc);
+    for decl in pins {
+        made.push(pin(alloc, decl)?)?;
+    }
+    Ok(made)
+}
+
+fn cell(alloc: Global, cell: &CellDecl) -> Result<Cell, AllocError>
+    ensures { IfOk result (λ made. made ≡ cell_of cell.now) }
+{
+    Ok(Cell {
+        name: cell.name.copy(alloc)?,
+        class: class_at(cell),
+        pins: pins(alloc, cell.pins.as_slice())?,
+    })
+}
+
+/// The cells of a netlist.
+pub(crate) fn cells(alloc: Global, cells: &[CellDecl]) -> Result<Sequence<Cell>, AllocError>
+    ensures { IfOk result (λ made. made ≡ map cell_of (cells_in cells.now)) }
+{
+    let mut made = Sequence::new(alloc);
+    for decl in cells {
+        if !is_scope(decl) {
+            made.push(cell(alloc, decl)?)?;
+        }
+    }
+    Ok(made)
+}
+
+/// The shapes of cells that are no memories.
+pub(crate) fn no_shapes(
+    alloc: Global,
+    count: usize,
+) -> Result<Sequence<Option<MemShape>>, AllocError>
+    ensures { IfOk result (λ shapes. shapes ≡ replicate count None) }
+{
+    let mut shapes = Sequence::new(alloc);
+    for _cell in 0..count {
+        shapes.push(None)?;
+    }
+    Ok(shapes)
+}
