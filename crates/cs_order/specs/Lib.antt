@@ -1,0 +1,4 @@
+pub mod Graphs
+pub mod Rows
+pub mod Searches
+pub mod Arrangements
