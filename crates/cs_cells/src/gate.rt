@@ -96,6 +96,13 @@ impl Kind {
         data_pins + selects
     }
 
+    /// How many of the input pins are selects, which come last: none but for the multiplexers.
+    pub(crate) fn select_count(self) -> usize
+        ensures { result ≡ (row_of self).selects }
+    {
+        GATES[self as usize].3
+    }
+
     /// The name of input pin i: the data pins from `A` on, then the selects from `S` on.
     pub fn pin_name(self, i: usize) -> &'static str
         requires { i < pin_count self }

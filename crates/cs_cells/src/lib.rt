@@ -2,6 +2,7 @@
 #![tactic(auto)]
 
 mod class;
+mod clauses;
 mod eval;
 mod gate;
 mod memory;

@@ -1,0 +1,111 @@
+-- What a list contains, and what a search in it tells.
+use Rattle.std.proofs.Common.{◌≡◌, ℕ, ◌+◌, ◌<◌, map, get_or, Bool, true, false, ◌||◌, cond, ◌⊎◌, inl, inr, List, [], ◌∷◌, length, Some, None, refl, sym, arith, subst, ap, ◌∙◌}
+use Rattle.std.specs.List.{Contains, find, list_any, slice_get}
+use Rattle.std.proofs.lemmas.Bool.{cases_lt}
+use Rattle.std.proofs.lemmas.Option.{slice_get_within, get_or_from_slice_get, slice_get-get_or, slice_get_read}
+use Rattle.std.proofs.lemmas.List.Elements.{Contains-append_right, Contains-append_cases, Contains-push_cases}
+
+pub not_in_empty : {X : Type 0} (x : X) → Contains [] x → ⊥
+not_in_empty x (k, within, is) = omega arith
+
+pub contains_here : {X : Type 0} (x : X) (xs : List X) → Contains (x ∷ xs) x
+contains_here x xs = (0, omega arith, refl)
+
+pub contains_there : {X : Type 0} (y x : X) (xs : List X) → Contains xs x → Contains (y ∷ xs) x
+contains_there y x xs has = Contains-append_right (y ∷ []) xs x has
+
+pub contains_cases : {X : Type 0} (y x : X) (xs : List X) → Contains (y ∷ xs) x → (y ≡ x) ⊎ Contains xs x
+contains_cases y x xs has =
+    elim (Contains-append_cases (y ∷ []) xs x has) [
+      | inl one ↦ elim (Contains-push_cases [] y x one) [
+        | inl none ↦ absurd (not_in_empty x none)
+        | inr is ↦ inl is
+      ]
+      | inr rest ↦ inr rest
+    ]
+
+pub find_none : {X : Type 0} (test : X → Bool) (xs : List X) → find test xs ≡ None → (x : X) → Contains xs x → test x ≡ false
+find_none test [] none x has = absurd (not_in_empty x has)
+find_none test (y ∷ ys) none x has =
+    let cases : (b : Bool) → test y ≡ b → cond b (Some y) (find test ys) ≡ None → test x ≡ false =
+    λ b. elim b as (λ b. test y ≡ b → cond b (Some y) (find test ys) ≡ None → test x ≡ false) [
+      | true ↦ λ is found. cc
+      | false ↦ λ is found. elim (contains_cases y x ys has) [
+        | inl here ↦ ap test (sym here) ∙ is
+        | inr there ↦ find_none test ys found x there
+      ]
+    ] in
+    cases (test y) refl none
+
+pub find_some : {X : Type 0} (test : X → Bool) (xs : List X) (x : X) → find test xs ≡ Some x → Contains xs x × (test x ≡ true)
+find_some test [] x found = cc
+find_some test (y ∷ ys) x found =
+    let cases : (b : Bool) → test y ≡ b → cond b (Some y) (find test ys) ≡ Some x → Contains (y ∷ ys) x × (test x ≡ true) =
+    λ b. elim b as (λ b. test y ≡ b → cond b (Some y) (find test ys) ≡ Some x → Contains (y ∷ ys) x × (test x ≡ true)) [
+      | true ↦ λ is found.
+          let same : y ≡ x = cc in
+          (subst (λ z. Contains (y ∷ ys) z) same (contains_here y ys), ap test (sym same) ∙ is)
+      | false ↦ λ is found.
+          let rest = find_some test ys x found in
+          (contains_there y x ys rest.0, rest.1)
+    ] in
+    cases (test y) refl found
+
+pub any_false : {X : Type 0} (test : X → Bool) (xs : List X) → list_any test xs ≡ false → (x : X) → Contains xs x → test x ≡ false
+any_false test [] none x has = absurd (not_in_empty x has)
+any_false test (y ∷ ys) none x has =
+    let cases : (b : Bool) → test y ≡ b → (b || list_any test ys) ≡ false → test x ≡ false =
+    λ b. elim b as (λ b. test y ≡ b → (b || list_any test ys) ≡ false → test x ≡ false) [
+      | true ↦ λ is no. cc
+      | false ↦ λ is no. elim (contains_cases y x ys has) [
+        | inl here ↦ ap test (sym here) ∙ is
+        | inr there ↦ any_false test ys no x there
+      ]
+    ] in
+    cases (test y) refl none
+
+pub any_true : {X : Type 0} (test : X → Bool) (xs : List X) → list_any test xs ≡ true → (x : X) × Contains xs x × (test x ≡ true)
+any_true test [] holds = cc
+any_true test (y ∷ ys) holds =
+    let cases : (b : Bool) → test y ≡ b → (b || list_any test ys) ≡ true → (x : _) × Contains (y ∷ ys) x × (test x ≡ true) =
+    λ b. elim b as (λ b. test y ≡ b → (b || list_any test ys) ≡ true → (x : _) × Contains (y ∷ ys) x × (test x ≡ true)) [
+      | true ↦ λ is found. (y, contains_here y ys, is)
+      | false ↦ λ is found.
+          let rest = any_true test ys found in
+          (rest.0, contains_there y rest.0 ys rest.1, rest.2)
+    ] in
+    cases (test y) refl holds
+
+pub contains_at : {X : Type 0} (xs : List X) (i : ℕ) (x : X) → slice_get xs i ≡ Some x → Contains xs x
+contains_at xs i x found = (i, slice_get_within xs i x found, get_or_from_slice_get xs i x x found)
+
+pub at_contains : {X : Type 0} (xs : List X) (x : X) → Contains xs x → (i : ℕ) × (slice_get xs i ≡ Some x)
+at_contains xs x (i, within, is) = (i, slice_get-get_or xs i x within ∙ ap Some is)
+
+pub contains_map : {X Y : Type 0} (f : X → Y) (xs : List X) (x : X) → Contains xs x → Contains (map f xs) (f x)
+contains_map f [] x has = absurd (not_in_empty x has)
+contains_map f (y ∷ ys) x has = elim (contains_cases y x ys has) [
+  | inl here ↦ subst (λ z. Contains (f y ∷ map f ys) (f z)) here (contains_here (f y) (map f ys))
+  | inr there ↦ contains_there (f y) (f x) (map f ys) (contains_map f ys x there)
+]
+
+pub mapped : {X Y : Type 0} (P : Y → Type 0) (f : X → Y) (xs : List X) → ((x : X) → Contains xs x → P (f x)) → (y : Y) → Contains (map f xs) y → P y
+mapped P f [] each y has = absurd (not_in_empty y has)
+mapped P f (x ∷ xs) each y has = elim (contains_cases (f x) y (map f xs) has) [
+  | inl here ↦ subst P here (each x (contains_here x xs))
+  | inr there ↦ mapped P f xs (λ z among. each z (contains_there x z xs among)) y there
+]
+
+-- one place more
+pub places_more : {X : Type 0} (P : ℕ → X → Type 0) (xs : List X) (i : ℕ) (x : X) → x ≡ get_or xs i x → i < length xs
+    → ((k : ℕ) (y : X) → k < i → slice_get xs k ≡ Some y → P k y) → P i x
+    → (k : ℕ) (y : X) → k < i + 1 → slice_get xs k ≡ Some y → P k y
+places_more P xs i x is within before here k y below found =
+    let here' : slice_get xs i ≡ Some x = slice_get_read xs (length xs) i x refl within is in
+    elim (cases_lt k i) [
+      | inl lt ↦ before k y lt found
+      | inr le ↦
+          let same : i ≡ k = omega arith in
+          let same_item : x ≡ y = let found' = subst (λ j. slice_get xs j ≡ Some y) (sym same) found in cc in
+          subst (λ j. P j y) same (subst (λ z. P i z) same_item here)
+    ]

@@ -1,0 +1,4 @@
+pub mod Settings
+pub mod Stores
+pub mod Trails
+pub mod Checkers

@@ -1,0 +1,175 @@
+// Unit propagation: a literal that is set false makes the clauses in which it occurs be looked at, and each that
+// is unit sets its literal. The literals that are set stand in a trail, and propagation goes along it.
+ghost use Rattle.std.specs.Prelude.{◌≡◌, ℕ, ◌≤◌, true, [], List, map, length, slice_get, Some, None, Contains, OnOk, IfErr};
+ghost use Rattle.cs_base.specs.declared.formula.Lit.{Lit as Literal};
+ghost use Rattle.cs_base.specs.declared.formula.Clause.{Clause as Lits};
+ghost use Rattle.cs_base.specs.Derivations.{negated as negated_lit};
+ghost use Rattle.cs_rup.specs.Settings.{is_false, AllFalse, IsQuiet, IsSetIn};
+ghost use Rattle.cs_rup.specs.Stores.{AreListed};
+ghost use Rattle.cs_rup.specs.Trails.{IsSound, Explains, StaysSound, ExplainsAny, set_by, Grows, Waits, AllWait, AllQuiet};
+
+use crate::error::Stop;
+use crate::status::{Status, status_of};
+use crate::store::Store;
+use crate::values::Values;
+use cs_base::{Clause, Lit};
+use std::alloc::{AllocError, Global};
+
+/// The literals that are set true, and of those set here the order.
+#[derive(Drop)]
+pub struct Trail {
+    pub values: Values,
+    pub lits: Vec<Lit>,
+}
+
+/// The other literal of the same variable.
+pub fn negated(lit: Lit) -> Lit
+    ensures { result ≡ negated_lit lit }
+{
+    Lit {
+        var: lit.var,
+        positive: !lit.positive,
+    }
+}
+
+impl Trail {
+    /// Nothing is set beyond these values.
+    pub fn new(alloc: Global, values: Values) -> Trail
+        ensures values { result.values ≡ values }
+        ensures lits { result.lits.items ≡ [] }
+    {
+        Trail {
+            values,
+            lits: Vec::new(alloc),
+        }
+    }
+
+    // Sets a literal true whose variable has no value yet.
+    fn set(&mut self, lit: Lit) -> Result<(), AllocError>
+        requires { set_by self.old lit.var ≡ None }
+        ensures set { OnOk result (IsSetIn (set_by self.old) (set_by self.new) lit) }
+        ensures grows { OnOk result (Grows self.old self.new) }
+    {
+        self.values.set(lit)?;
+        self.lits.push(lit)?;
+        Ok(())
+    }
+
+    // Looks at a clause: one that is unit sets its literal, one that is falsified is a conflict.
+    fn examine(&mut self, clause: &Clause) -> Result<(), Stop>
+        ensures grows { OnOk result (Grows self.old self.new) }
+        ensures quiet { OnOk result (IsQuiet (set_by self.new) clause.now.lits) }
+        ensures sound { OnOk result ((clauses : List Lits) → Contains clauses clause.now
+            → StaysSound clauses self.old self.new) }
+        ensures err { IfErr result (λ stop. (clauses : List Lits) → Contains clauses clause.now
+            → ExplainsAny clauses self.old stop) }
+    {
+        match status_of(&self.values, clause.lits.as_slice()) {
+            Status::Quiet => Ok(()),
+            Status::Unit(lit) => {
+                self.set(lit)?;
+                Ok(())
+            }
+            Status::Falsified => Err(Stop::Conflict),
+        }
+    }
+
+    // Looks at the clause of a place, if there is one.
+    fn look_at(&mut self, store: &Store, place: usize) -> Result<(), Stop>
+        ensures grows { OnOk result (Grows self.old self.new) }
+        ensures quiet { OnOk result ((clause : Lits) → slice_get store.now.clauses place ≡ Some clause
+            → IsQuiet (set_by self.new) clause.lits) }
+        ensures sound { OnOk result (StaysSound store.now.clauses self.old self.new) }
+        ensures err { IfErr result (ExplainsAny store.now.clauses self.old) }
+    {
+        match store.clauses.as_slice().get(place) {
+            Some(clause) => self.examine(clause),
+            None => Ok(()),
+        }
+    }
+
+    // Looks at the clauses of these places.
+    fn visit(&mut self, store: &Store, places: &[usize]) -> Result<(), Stop>
+        ensures grows { OnOk result (Grows self.old self.new) }
+        ensures waits { OnOk result ((place : ℕ) (clause : Lits) → Contains places.now place
+            → slice_get store.now.clauses place ≡ Some clause
+            → Waits self.new (length self.old.lits.items) clause.lits) }
+        ensures sound { OnOk result (StaysSound store.now.clauses self.old self.new) }
+        ensures err { IfErr result (ExplainsAny store.now.clauses self.old) }
+    {
+        for place in places {
+            self.look_at(store, *place)?;
+        }
+        Ok(())
+    }
+
+    // Sets a literal false; one that is true already is a conflict.
+    fn set_false(&mut self, lit: Lit) -> Result<(), Stop>
+        ensures grows { OnOk result (Grows self.old self.new) }
+        ensures is_false { OnOk result (is_false (set_by self.new) lit ≡ true) }
+        ensures sound { OnOk result ((clauses : List Lits) (given : List Literal)
+            → Contains given (negated_lit lit) → IsSound clauses given (set_by self.old)
+            → IsSound clauses given (set_by self.new)) }
+        ensures err { IfErr result (λ stop. (clauses : List Lits) (given : List Literal)
+            → Contains given (negated_lit lit) → IsSound clauses given (set_by self.old)
+            → Explains clauses given stop) }
+    {
+        if self.values.is_true(lit) {
+            return Err(Stop::Conflict);
+        }
+        if self.values.is_false(lit) {
+            return Ok(());
+        }
+        self.set(negated(lit))?;
+        Ok(())
+    }
+
+    /// Sets the literals of a line false.
+    pub fn refute(&mut self, line: &[Lit]) -> Result<(), Stop>
+        ensures grows { OnOk result (Grows self.old self.new) }
+        ensures given { OnOk result (AllFalse (set_by self.new) line.now) }
+        ensures sound { OnOk result ((clauses : List Lits)
+            → IsSound clauses (map negated_lit line.now) (set_by self.old)
+            → IsSound clauses (map negated_lit line.now) (set_by self.new)) }
+        ensures err { IfErr result (λ stop. (clauses : List Lits)
+            → IsSound clauses (map negated_lit line.now) (set_by self.old)
+            → Explains clauses (map negated_lit line.now) stop) }
+    {
+        for lit in line {
+            self.set_false(*lit)?;
+        }
+        Ok(())
+    }
+
+    /// Looks at the clauses from this place on.
+    pub fn examine_from(&mut self, store: &Store, first: usize) -> Result<(), Stop>
+        ensures grows { OnOk result (Grows self.old self.new) }
+        ensures waits { OnOk result ((place : ℕ) (clause : Lits) → first ≤ place
+            → slice_get store.now.clauses place ≡ Some clause → Waits self.new 0 clause.lits) }
+        ensures sound { OnOk result (StaysSound store.now.clauses self.old self.new) }
+        ensures err { IfErr result (ExplainsAny store.now.clauses self.old) }
+    {
+        for place in first..store.clauses.len() {
+            self.look_at(store, place)?;
+        }
+        Ok(())
+    }
+
+    /// Propagates to the end.
+    pub fn propagate(&mut self, store: &Store) -> Result<(), Stop>
+        requires listed { AreListed store.now.clauses store.now.lists.items }
+        requires waits { AllWait self.old 0 store.now.clauses }
+        ensures grows { OnOk result (Grows self.old self.new) }
+        ensures quiet { OnOk result (AllQuiet (set_by self.new) store.now.clauses) }
+        ensures sound { OnOk result (StaysSound store.now.clauses self.old self.new) }
+        ensures err { IfErr result (ExplainsAny store.now.clauses self.old) }
+    {
+        let mut next = 0;
+        while next < self.lits.len() {
+            let lit = self.lits[next];
+            self.visit(store, store.list_of(negated(lit)))?;
+            next += 1;
+        }
+        Ok(())
+    }
+}
