@@ -1,0 +1,20 @@
+mod Lists
+mod Sees
+mod Runs
+mod Parts
+mod Slowed
+mod Shifted
+mod Pasts
+mod StartsAndPasts
+mod PastsOfContexts
+pub mod DraftLemmas
+pub mod NumberingLemmas
+pub mod BuiltLemmas
+pub mod LagLemmas
+pub mod SearchLemmas
+pub mod SearchEnds
+pub mod ArrivalLemmas
+pub mod PathLemmas
+pub mod RetimedLoops
+pub mod OpenLemmas
+pub mod FinishLemmas

@@ -1,0 +1,13 @@
+pub mod Kinds
+pub mod DelayBounds
+pub mod Run
+pub mod Order
+pub mod Invariant
+pub mod Slow
+pub mod Lags
+pub mod Past
+pub mod Period
+pub mod Draft
+pub mod Faults
+pub mod Search
+pub mod Arrivals

@@ -1,0 +1,67 @@
+// Laws of machines. Each is a function without effect, whose clauses are the law.
+ghost use Rattle.std.specs.Prelude.{◌≡◌, ◌<◌, ◌≤◌, ◌↔◌, ◌+ℤ◌, ◌<ℤ◌, pos, ℤ, ℕ, Bool, false, List, []};
+ghost use Rattle.cs_base.specs.Parts.{part};
+ghost use Rattle.cs_base.specs.declared.contexts.Mode.{Mode};
+ghost use Rattle.cs_cells.specs.Memories.{Words};
+ghost use Rattle.cs_graph.specs.Invariant.{IsWellFormed};
+ghost use Rattle.cs_graph.specs.Lags.{lag_at, IsLegal, AreWithin, Contents, retimed, Justifies, HasStart};
+ghost use Rattle.cs_graph.specs.Past.{Past, lead, IsPast, AreRight, HasPast, HasPastOf, IsSlowedBy};
+ghost use Rattle.cs_graph.specs.Run.{Row, Outs, RunsFor, HasOneRun, RunsWith};
+ghost use Rattle.cs_graph.specs.Slow.{slow};
+ghost use Rattle.cs_graph.specs.declared.graph.Graph.{Graph};
+
+use crate::machine::Machine;
+
+/// A machine has exactly one run over any rows, and exactly one bounded run.
+pub fn one_run(machine: &Machine)
+    ensures { (bounded : Bool) (clocks : ℕ) (row : ℕ → Row) → HasOneRun bounded machine.now clocks row }
+{
+    machine.keeps();
+}
+
+/// What a machine without memories answers when each register is several, it answers to each context alone.
+pub fn contexts_alone()
+    ensures { (bounded : Bool) (g : Graph) (c k : ℕ) (rows outputs : List Row) → g.memories ≡ [] → k < c
+        → RunsWith bounded (slow c g) rows outputs
+        → RunsWith bounded g (part k c rows) (part k c outputs) }
+{}
+
+/// For legal lags, contents that continue a past justify the lags; the retimed machine then answers what the
+/// machine answers, and is well formed.
+pub fn right_contents(machine: &Machine)
+    ensures justify { (mode : Mode) (lags : List ℤ) (reach : ℕ) (past : Past) (k : Contents)
+        → IsLegal machine.now mode lags → AreWithin reach lags → IsPast machine.now lags past
+        → AreRight machine.now lags past k → Justifies machine.now lags k }
+    ensures answer { (mode : Mode) (lags : List ℤ) (reach : ℕ) (past : Past) (k : Contents)
+        (rows outputs : List Row) → IsLegal machine.now mode lags → AreWithin reach lags
+        → IsPast machine.now lags past → AreRight machine.now lags past k
+        → RunsWith false machine.now rows outputs → RunsWith false (retimed lags k machine.now) rows outputs }
+    ensures well_formed { (mode : Mode) (lags : List ℤ) (reach : ℕ) (past : Past) (k : Contents)
+        → IsLegal machine.now mode lags → AreWithin reach lags → AreRight machine.now lags past k
+        → IsWellFormed (retimed lags k machine.now) }
+{
+    machine.keeps();
+}
+
+/// Values computed ahead, at the clocks below minus a negative lag, are the same for all rows.
+pub fn values_ahead(machine: &Machine)
+    ensures { (mode : Mode) (lags : List ℤ) (clocks clocks' t v o : ℕ) (row row' : ℕ → Row)
+        (value value' : ℕ → Outs) (words words' : ℕ → ℕ → Words) → IsLegal machine.now mode lags
+        → RunsFor false machine.now clocks row value words → RunsFor false machine.now clocks' row' value' words'
+        → t < clocks → t < clocks' → (pos t +ℤ lag_at lags v) <ℤ pos 0 → value t v o ≡ value' t v o }
+{
+    machine.keeps();
+}
+
+/// Legal lags have a justifying start exactly where they have a past; where every weight is a multiple of the
+/// number of contexts, exactly where they have one for each context; and so have lags that are positive by less.
+pub fn starts(machine: &Machine)
+    ensures exactly { (mode : Mode) (lags : List ℤ) (reach : ℕ) → IsLegal machine.now mode lags
+        → AreWithin reach lags → HasStart machine.now lags ↔ HasPast machine.now lags }
+    ensures by_context { (lags : List ℤ) (c : ℕ) → 0 < c → IsSlowedBy c machine.now
+        → HasPast machine.now lags ↔ ((k : ℕ) → k < c → HasPastOf machine.now lags c k) }
+    ensures pass { (lags lags' : List ℤ) → ((v : ℕ) → lead (lag_at lags v) ≤ lead (lag_at lags' v))
+        → HasPast machine.now lags' → HasPast machine.now lags }
+{
+    machine.keeps();
+}

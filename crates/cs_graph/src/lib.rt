@@ -1,0 +1,33 @@
+//! The graph of Leiserson and Saxe with starts and memories: machines, their builder, order, lags and periods.
+#![tactic(auto)]
+
+mod builder;
+mod delays;
+mod edge;
+mod error;
+mod finish;
+mod graph;
+mod lags;
+mod laws;
+mod machine;
+mod memory;
+mod numbering;
+mod order;
+mod period;
+mod search;
+mod source;
+mod vertex;
+
+pub use builder::MachineBuilder;
+pub use delays::Delays;
+pub use edge::Edge;
+pub use error::BuildError;
+pub use graph::Graph;
+pub use lags::are_within;
+pub use laws::{contexts_alone, one_run, right_contents, starts, values_ahead};
+pub use machine::Machine;
+pub use memory::Memory;
+pub use vertex::{Feed, Pins, Vertex, VertexKind};
+
+#[cfg(test)]
+mod tests;
