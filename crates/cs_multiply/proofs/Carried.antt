@@ -22,7 +22,8 @@ use Rattle.cs_net.specs.Places.{place_of}
 use Rattle.cs_net.specs.Conditions.{input_bits_in, duplicates, number_in}
 use Rattle.cs_net.specs.Build.{net_of, port_of}
 use Rattle.cs_net.proofs.PlainNets.{driver_of-logic, driver_by, cell_that_drives, output_by, output_of}
-use Rattle.cs_net.proofs.FirstFormNets.{no_loop_of_order, only_top}
+use Rattle.cs_net.proofs.Orders.{no_loop_of_order}
+use Rattle.cs_net.proofs.TopModule.{only_top}
 use Rattle.cs_multiply.specs.declared.circuit.Circuit.{Circuit}
 use Rattle.cs_multiply.specs.declared.circuit.RegisterPart.{RegisterPart}
 use Rattle.cs_multiply.specs.Circuits.{no_register, register_bit, register_at, circuit_module, circuit_document}
@@ -40,7 +41,8 @@ use Rattle.cs_multiply.proofs.NetFacts.{NetFacts, facts_of_net}
 use Rattle.cs_multiply.proofs.Places.{is_bit_itself, place_in_filtered}
 use Rattle.cs_multiply.proofs.Wires.{same_bit, apart_before}
 use Rattle.cs_multiply.proofs.Splits.{net_logic, HasGate, has_gate, gate_drives, HasRegister, has_register, register_drives}
-use Rattle.cs_multiply.proofs.MultipliedCircuit.{bit_at_place, gates_count, registers_count, inputs_written, input_count_is, outputs_written, gate_bits, register_bits, wire_of_input, same_clock, ports_are, pins_of_gate, kind_of_gate, is_circuit}
+use Rattle.cs_multiply.proofs.CircuitCounts.{bit_at_place}
+use Rattle.cs_multiply.proofs.MultipliedCircuit.{gates_count, registers_count, inputs_written, input_count_is, outputs_written, gate_bits, register_bits, wire_of_input, same_clock, ports_are, pins_of_gate, kind_of_gate, is_circuit}
 use Rattle.cs_multiply.proofs.Pullback.{isolates}
 
 -- ---- lists

@@ -15,7 +15,7 @@ pub mod NetFacts
 pub mod Places
 pub mod Wires
 pub mod Splits
+pub mod CircuitCounts
 pub mod MultipliedCircuit
 pub mod Carried
-pub mod Pushed
 pub mod Few

@@ -1,5 +1,5 @@
 -- The circuit of a netlist of gates and plain registers with each register C times in series.
-use Rattle.std.specs.Prelude.{ℕ, ◌+◌, ◌-◌, ◌*◌, ◌/◌, ◌%◌, ◌==◌, List, length, map, filter, filter_map, flat_map, sum_by, get_or, Bool, true, false, ◌&&◌, nat_le, Option, Some, None, is_none, if◌then◌else◌, unwrap_or, option_map, option_and_then, codes}
+use Rattle.std.specs.Prelude.{ℕ, ◌+◌, ◌-◌, ◌*◌, ◌/◌, ◌%◌, ◌==◌, List, length, map, filter, filter_map, flat_map, sum_by, get_or, Bool, true, false, not, ◌&&◌, find, nat_le, Option, Some, None, is_none, if◌then◌else◌, unwrap_or, option_map, option_and_then, codes}
 use Rattle.std.specs.List.{list_all}
 use Rattle.cs_base.specs.declared.signal.Signal.{Signal}
 use Rattle.cs_base.specs.declared.signal.Signal.TheVariants.{Zero, Bit}
@@ -16,7 +16,9 @@ use Rattle.cs_net.specs.Netlist.{Net, bit_at}
 use Rattle.cs_net.specs.Drivers.{signal_of, is_input, data_inputs, data_outputs}
 use Rattle.cs_net.specs.Pins.{count_from}
 use Rattle.cs_net.specs.Places.{place_of}
-use Rattle.cs_net.specs.Conditions.{number_in}
+use Rattle.cs_net.specs.Conditions.{number_in, or_else}
+use Rattle.cs_multiply.specs.declared.error.MultiplyError.{MultiplyError}
+use Rattle.cs_multiply.specs.declared.error.MultiplyError.TheVariants.{Cell as OtherCell, PortBits}
 use Rattle.cs_multiply.specs.declared.circuit.Circuit.{Circuit}
 use Rattle.cs_multiply.specs.declared.circuit.GatePart.{GatePart}
 use Rattle.cs_multiply.specs.declared.circuit.RegisterPart.{RegisterPart}
@@ -34,6 +36,12 @@ is_plain _ = false
 -- the bits of ports
 abbrev pub port_bit_count : List Port → ℕ
 port_bit_count ports = sum_by (λ p. length p.bits) ports
+
+-- why a netlist is not multiplied: its first cell that is neither a gate nor a plain register, or the bits of its ports
+unfoldable pub multiply_refusal : Net → Option MultiplyError
+multiply_refusal net = or_else
+    (option_map (λ cell. OtherCell cell.name) (find (λ cell. not (is_plain cell.class)) net.cells))
+    (if nat_le (port_bit_count net.ports) 65536 then None else Some PortBits)
 
 -- gates and plain registers alone, at most 65,536 of them, and at most 65,536 bits in the ports
 abbrev pub can_multiply : Net → Bool
@@ -141,6 +149,6 @@ multiplied net c = record {
   registers = map (stage net c) (count_from 0 (length (register_outputs net) * c));
 }
 
--- the document that is written for a netlist, where it can be
-unfoldable pub multiplied_document : ℕ → Net → Option Document
-multiplied_document c net = if can_multiply net then Some (circuit_document (multiplied net c)) else None
+-- the document that is written for a netlist
+unfoldable pub multiplied_document : ℕ → Net → Document
+multiplied_document c net = circuit_document (multiplied net c)

@@ -4,6 +4,7 @@
 mod circuit;
 mod document;
 mod emit;
+mod error;
 mod laws;
 mod numbering;
 mod parts;
@@ -12,6 +13,7 @@ mod wiring;
 
 pub use circuit::{Circuit, GatePart, RegisterPart};
 pub use document::multiply;
+pub use error::MultiplyError;
 pub use laws::{multiplied_isolates, plain_netlist_is_multiplied};
 
 #[cfg(test)]

@@ -2,7 +2,7 @@
 use crate::multiply;
 use cs_base::{Contexts, Signal};
 use cs_json::{CellDecl, Document, Module, read_document};
-use cs_net::first_form;
+use cs_net::accept;
 use std::alloc::Global;
 use std::test::Fail;
 
@@ -22,9 +22,9 @@ const GATES: &str =
 
 fn multiplied(alloc: Global, text: &str, contexts: u64) -> Result<Document, Fail> {
     let document = read_document(alloc, text.as_bytes()).map_err(|_| "a document")?;
-    let net = first_form(alloc, &document)?.ok_or("a netlist of the first form")?;
+    let net = accept(alloc, &document, None).map_err(|_| "a netlist")?;
     let contexts = Contexts::new(contexts).ok_or("a number of contexts")?;
-    Ok(multiply(alloc, &net, contexts)?.ok_or("a netlist that can be multiplied")?)
+    Ok(multiply(alloc, &net, contexts).map_err(|_| "a netlist that is multiplied")?)
 }
 
 fn only_module(document: &Document) -> Result<&Module, Fail> {

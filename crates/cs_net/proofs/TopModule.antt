@@ -1,8 +1,9 @@
 -- The only marked module is that at the only marked place.
 use Rattle.std.proofs.Common.{◌≡◌, ℕ, suc, ◌+◌, List, [], ◌∷◌, ◌++◌, map, length, get_or, ◌≤◌, Bool, true, false, cond, Some, None, refl, ap, ap₂, ◌∙◌, sym, arith}
 use Rattle.std.specs.Prelude.{slice_get, filter}
+use Rattle.cs_json.specs.declared.document.Document.{Document}
 use Rattle.cs_json.specs.declared.document.Module.{Module}
-use Rattle.cs_net.specs.Conditions.{is_marked, only_one, only_marked}
+use Rattle.cs_net.specs.Conditions.{is_marked, only_one, only_marked, top_of}
 use Rattle.cs_net.specs.PinBits.{marked_places_from, top_at}
 
 pub top_at_none : (places : List ℕ) (all : List Module) → length places ≡ 0 → top_at places all ≡ only_one all
@@ -43,3 +44,7 @@ module _ (all : List Module) where
 
   pub top_at-marked_places : top_at (marked_places_from 0 all) all ≡ only_marked (filter is_marked all) all
   top_at-marked_places = by_places (filter is_marked all) (marked_places_from 0 all) (marked_at 0 all (λ j. let place : 0 + j ≡ j = omega arith in ap (slice_get all) place))
+
+-- a document of one module has that module at its top
+pub only_top : (m : Module) → let doc : Document = record { modules = m ∷ [] } in top_of doc None ≡ Some m
+only_top m = elim (is_marked m) as (λ t. only_marked (cond t (m ∷ filter is_marked []) (filter is_marked [])) (m ∷ []) ≡ Some m) [ true ↦ refl | false ↦ refl ]

@@ -75,8 +75,8 @@ above_limit what count most =
     if nat_lt most count then Some (record { what = what; found = min count (2 ^ 64 - 1); most = most }) else None
 
 -- the shapes of the memories, in order
-abbrev pub memory_shapes : Net → List MemShape
-memory_shapes net = filter_map (λ shape. shape) net.shapes
+abbrev pub shapes_in : List (Option MemShape) → List MemShape
+shapes_in shapes = filter_map (λ shape. shape) shapes
 
 -- 2^ABITS * WIDTH, the bits that a memory's addresses reach
 abbrev pub memory_bits : MemShape → ℕ
@@ -91,15 +91,26 @@ abbrev pub too_many_address_bits : List MemShape → ℕ
 too_many_address_bits shapes =
     unwrap_or (option_map (λ shape. shape.abits) (find (λ shape. nat_lt 20 shape.abits) shapes)) 0
 
--- cells, then address bits, then memory bits, then read bits
+-- address bits, then memory bits, then read bits
+abbrev pub memory_fault_of : List (Option MemShape) → Option LimitFault
+memory_fault_of shapes =
+    or_else (above_limit AddressBits (too_many_address_bits (shapes_in shapes)) 20)
+    (or_else (above_limit MemoryBits (sum (map memory_bits (shapes_in shapes))) 4194304)
+    (above_limit ReadBits (sum (map read_bits (shapes_in shapes))) 4194304))
+
+-- so many cells, and then their memories
+abbrev pub limit_fault_of : ℕ → List (Option MemShape) → Option LimitFault
+limit_fault_of cells shapes = or_else (above_limit Cells cells 65536) (memory_fault_of shapes)
+
 unfoldable pub limit_fault : Net → Option LimitFault
-limit_fault net =
-    or_else (above_limit Cells (length net.cells) 65536)
-    (or_else (above_limit AddressBits (too_many_address_bits (memory_shapes net)) 20)
-    (or_else (above_limit MemoryBits (sum (map memory_bits (memory_shapes net))) 4194304)
-    (above_limit ReadBits (sum (map read_bits (memory_shapes net))) 4194304)))
+limit_fault net = limit_fault_of (length net.cells) net.shapes
 
 -- ---- both answers
+
+-- a count above its limit
+abbrev pub is_limit : NetError → Bool
+is_limit (Limit fault) = true
+is_limit _ = false
 
 -- the refusals after the early ones
 abbrev pub RefusesLate : Module → NetError → Type 0
@@ -124,3 +135,8 @@ pub record IsNet (doc : Document) (top : Option (List ℕ)) (net : Net) : Type 0
   pub no_loop : HasNoLoop (net_of «module»)
   pub not_reserved : reserved «module» ≡ None
   pub is : net ≡ net_of «module»
+
+-- it is the netlist of the document's top module, and within the limits
+pub record IsAccepted (doc : Document) (top : Option (List ℕ)) (net : Net) : Type 0 where
+  pub is_net : IsNet doc top net
+  pub within : limit_fault net ≡ None

@@ -1,5 +1,5 @@
 -- The netlist of a module.
-use Rattle.std.specs.Prelude.{ℕ, ◌+◌, ◌*◌, List, [], map, Bool, Option, Some, None, filter_map, flat_map, option_map, codes}
+use Rattle.std.specs.Prelude.{◌≡◌, ℕ, ◌+◌, ◌*◌, List, [], map, Bool, Option, Some, None, filter_map, flat_map, option_map, codes}
 use Rattle.cs_json.specs.declared.document.Module.{Module}
 use Rattle.cs_json.specs.declared.document.PortDecl.{PortDecl}
 use Rattle.cs_json.specs.declared.document.CellDecl.{CellDecl}
@@ -9,6 +9,8 @@ use Rattle.cs_cells.specs.declared.memory.ReadShape.{ReadShape}
 use Rattle.cs_cells.specs.declared.class.Class.{Class}
 use Rattle.cs_cells.specs.declared.class.Class.TheVariants as class
 use Rattle.cs_cells.specs.Memories.{Words, word_count}
+use Rattle.cs_net.specs.declared.acceptance.Draft.{Draft}
+use Rattle.cs_net.specs.declared.memories.ReadDigits.{ReadDigits}
 use Rattle.cs_net.specs.declared.netlist.Cell.{Cell}
 use Rattle.cs_net.specs.declared.netlist.PinBits.{PinBits}
 use Rattle.cs_net.specs.declared.netlist.Port.{Port}
@@ -33,6 +35,13 @@ cell_of cell = record { name = cell.name; class = class_at cell; pins = map pin_
 -- digits i * width and on of a parameter, `width` of them
 abbrev pub digits_part : CellDecl → List ℕ → ℕ → ℕ → List Bool
 digits_part cell name width i = map (λ j. is_one (parameter cell name) (i * width + j)) (count_from 0 width)
+
+-- these are the digits of the parameters of a memory's read ports
+pub record AreReadsOf (cell : CellDecl) (digits : ReadDigits) : Type 0 where
+  pub clocked : digits.clocked.items ≡ parameter cell (codes "RD_CLK_ENABLE")
+  pub enable_over_reset : digits.enable_over_reset.items ≡ parameter cell (codes "RD_CE_OVER_SRST")
+  pub reset_value : digits.reset_value.items ≡ parameter cell (codes "RD_SRST_VALUE")
+  pub start : digits.start.items ≡ parameter cell (codes "RD_INIT_VALUE")
 
 -- read port i of a memory
 abbrev pub read_shape : CellDecl → ℕ → ℕ → ReadShape
@@ -93,3 +102,10 @@ net_of m = record {
   starts = flat_map (λ cell. starts_by (class_at cell) m cell) (cells_of m);
   memories = filter_map (λ cell. words_by (class_at cell) cell) (cells_of m);
 }
+
+-- these are the ports, the cells, the shapes and the clock of the module's netlist
+pub record IsDraftOf (m : Module) (draft : Draft) : Type 0 where
+  pub ports : draft.ports ≡ map port_of m.ports
+  pub cells : draft.cells ≡ map cell_of (cells_of m)
+  pub shapes : draft.shapes ≡ map shape_of (cells_of m)
+  pub clock : draft.clock ≡ clock_of m

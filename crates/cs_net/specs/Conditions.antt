@@ -339,18 +339,23 @@ has_no_asynchronous_reset m cell =
 abbrev pub MemoryRule : Type 0
 MemoryRule = List ℕ × Bool
 
+-- the rules on its ports, in order
+abbrev pub port_rules : Module → CellDecl → List MemoryRule
+port_rules m cell =
+    (codes "RD_TRANSPARENCY_MASK", are_zero (parameter cell (codes "RD_TRANSPARENCY_MASK")) (number_at cell (codes "RD_PORTS") * number_at cell (codes "WR_PORTS")))
+    ∷ (codes "RD_WIDE_CONTINUATION", are_zero (parameter cell (codes "RD_WIDE_CONTINUATION")) (number_at cell (codes "RD_PORTS")))
+    ∷ (codes "WR_WIDE_CONTINUATION", are_zero (parameter cell (codes "WR_WIDE_CONTINUATION")) (number_at cell (codes "WR_PORTS")))
+    ∷ (codes "RD_ARST", has_no_asynchronous_reset m cell)
+    ∷ (codes "WR_CLK_ENABLE", are_one (parameter cell (codes "WR_CLK_ENABLE")) (number_at cell (codes "WR_PORTS")))
+    ∷ []
+
 -- the rules in order
 abbrev pub memory_rules : Module → CellDecl → List MemoryRule
 memory_rules m cell =
     (codes "SIZE", nat_lt 0 (number_at cell (codes "SIZE")))
     ∷ (codes "WIDTH", nat_lt 0 (number_at cell (codes "WIDTH")))
     ∷ (codes "OFFSET", not (is_nonzero (parameter cell (codes "OFFSET"))))
-    ∷ (codes "RD_TRANSPARENCY_MASK", are_zero (parameter cell (codes "RD_TRANSPARENCY_MASK")) (number_at cell (codes "RD_PORTS") * number_at cell (codes "WR_PORTS")))
-    ∷ (codes "RD_WIDE_CONTINUATION", are_zero (parameter cell (codes "RD_WIDE_CONTINUATION")) (number_at cell (codes "RD_PORTS")))
-    ∷ (codes "WR_WIDE_CONTINUATION", are_zero (parameter cell (codes "WR_WIDE_CONTINUATION")) (number_at cell (codes "WR_PORTS")))
-    ∷ (codes "RD_ARST", has_no_asynchronous_reset m cell)
-    ∷ (codes "WR_CLK_ENABLE", are_one (parameter cell (codes "WR_CLK_ENABLE")) (number_at cell (codes "WR_PORTS")))
-    ∷ []
+    ∷ port_rules m cell
 
 abbrev pub is_broken : MemoryRule → Bool
 is_broken rule = not rule.1

@@ -8,8 +8,9 @@ pub mod PinBits
 pub mod Starts
 pub mod Build
 pub mod Accept
+pub mod Elements
+pub mod Loops
 pub mod Invariant
-pub mod FirstForm
 pub mod Trace
 pub mod Contexts
 pub mod Isolates

@@ -1,12 +1,11 @@
-// The netlist of a module that no condition refuses and that has no memory.
-ghost use Rattle.std.specs.Prelude.{◌≡◌, IfOk, None, map, replicate};
+// The ports and the cells of a netlist.
+ghost use Rattle.std.specs.Prelude.{◌≡◌, IfOk, map};
 ghost use Rattle.cs_net.specs.Build.{cell_of, pin_of, port_of};
 ghost use Rattle.cs_net.specs.Conditions.{cells_in};
 
 use crate::conditions::{class_at, is_scope};
 use crate::netlist::{Cell, PinBits, Port};
 use cs_base::{Sequence, Signal};
-use cs_cells::MemShape;
 use cs_json::{CellDecl, PinDecl, PortDecl};
 use std::alloc::{AllocError, Global};
 
@@ -77,18 +76,4 @@ pub(crate) fn cells(alloc: Global, cells: &[CellDecl]) -> Result<Sequence<Cell>,
         }
     }
     Ok(made)
-}
-
-/// The shapes of cells that are no memories.
-pub(crate) fn no_shapes(
-    alloc: Global,
-    count: usize,
-) -> Result<Sequence<Option<MemShape>>, AllocError>
-    ensures { IfOk result (λ shapes. shapes ≡ replicate count None) }
-{
-    let mut shapes = Sequence::new(alloc);
-    for _cell in 0..count {
-        shapes.push(None)?;
-    }
-    Ok(shapes)
 }

@@ -1,5 +1,9 @@
 // Why a document is no netlist.
+ghost use Rattle.std.specs.Prelude.{◌≡◌};
+ghost use Rattle.cs_net.specs.declared.error.NetError.TheVariants.{NoMemory};
+
 use cs_base::{BitId, LimitFault, Sequence, Signal, Text};
+use std::alloc::AllocError;
 
 /// The refusals of a document, in the order in which their causes are looked for.
 #[derive(Debug, Drop)]
@@ -39,4 +43,12 @@ pub enum NetError {
     /// A count is above the program's limit.
     Limit(LimitFault),
     NoMemory,
+}
+
+impl From<AllocError> for NetError {
+    ghost from_gives = { λ _ error. error ≡ NoMemory };
+
+    fn from(_: AllocError) -> Self {
+        NetError::NoMemory
+    }
 }

@@ -1,24 +1,28 @@
 //! Netlists: which documents are one, what a netlist answers, and when one isolates another.
 #![tactic(auto)]
 
+mod acceptance;
 mod build;
 mod conditions;
 mod connection;
 mod digits;
+mod elements;
 mod error;
-mod forms;
 mod images;
 mod initial_values;
 mod laws;
+mod limits;
+mod loops;
+mod memories;
 mod netlist;
 mod numbers;
 mod places;
 mod refusal;
 mod state;
 
+pub use acceptance::accept;
 pub use connection::Role;
 pub use error::NetError;
-pub use forms::first_form;
 pub use images::Images;
 pub use laws::{isolates_itself, one_trace, rows_of_a_part};
 pub use netlist::{Cell, Clock, Netlist, PinBits, Port};

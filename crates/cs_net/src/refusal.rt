@@ -1,15 +1,16 @@
-// The conditions on pins, ports, drivers, clocks and starts, asked in order.
-ghost use Rattle.std.specs.Prelude.{◌≡◌, ℕ, nat_eq, IfOk};
+// The conditions on cells, ports, drivers, clocks, starts and memories, asked in order.
+ghost use Rattle.std.specs.Prelude.{◌≡◌, IfOk, None, nat_eq, ℕ};
 ghost use Rattle.std.specs.List.{list_any};
 ghost use Rattle.indexmap.specs.IndexSet.{contains};
 ghost use Rattle.cs_net.specs.Drivers.{is_bit};
-ghost use Rattle.cs_net.specs.Conditions.{of_clock, two_clocks, mixed_edges, clock_as_data, clock_of, input_bits};
+ghost use Rattle.cs_net.specs.Conditions.{bad_pins, clock_as_data, clock_of, driven_signals, early_refusal, input_bits, mixed_edges, of_clock, two_clocks};
 ghost use Rattle.cs_net.specs.PinBits.{bits_of_cells, clock_bits_of};
-ghost use Rattle.cs_net.specs.Refusal.{driver_refusal, clock_refusal, name_refusal, port_refusal, wiring_refusal};
+ghost use Rattle.cs_net.specs.Refusal.{bit_refusal, class_refusal, clock_refusal, driver_refusal, state_refusal, wiring_refusal};
 
 use crate::conditions::{
-    ClockBit, bad_pins, clock_as_data, clock_bits, clock_not_input, const_z, driven_numbers,
-    first_clock, inout, input_numbers, mixed_edges, reserved, two_clocks, two_drivers, two_starts,
+    ClockBit, asynchronous, bad_pins, clock_as_data, clock_bits, clock_not_input, const_z,
+    driven_numbers, first_clock, inout, input_numbers, memory_form, mixed_edges, not_fine,
+    two_clocks, two_drivers, two_starts, unknown_cell,
 };
 use crate::connection::{PinBit, bits_of_cells};
 use crate::error::NetError;
@@ -19,35 +20,57 @@ use cs_json::Module;
 use indexmap::IndexSet;
 use std::alloc::{AllocError, Global};
 
-/// The first of the conditions 5 to 13 and then 16 that holds of a module, told as its refusal: a cell with other pins
-/// than its type, an inout port, `z` at an input, a bit with two drivers, a clock that is no input bit, two clocks, mixed
-/// edges, a clock that is read as data, two starts of one register, or a port with a reserved name. It errs only where
-/// memory runs out.
-#[tactic(auto, unfolding(crate::specs::Refusal::wiring_refusal))]
-pub(crate) fn wiring_refusal(alloc: Global, top: &Module) -> Result<Option<NetError>, AllocError>
+/// The first of the conditions 2 to 14 that holds of a module, told as its refusal: a cell of an unknown type, a coarse or
+/// an asynchronous one, a cell with other pins than its type, an inout port, `z` at an input, a bit with two drivers, a
+/// clock that is no input bit, two clocks, mixed edges, a clock that is read as data, two starts of one register, or a
+/// memory of another form. It errs only where memory runs out.
+pub(crate) fn early_refusal(alloc: Global, top: &Module) -> Result<Option<NetError>, AllocError>
+    ensures { IfOk result (λ found. found ≡ early_refusal top.now) }
+{
+    if let Some(error) = class_refusal(alloc, top)? {
+        return Ok(Some(error));
+    }
+    wiring_refusal(alloc, top)
+}
+
+fn class_refusal(alloc: Global, top: &Module) -> Result<Option<NetError>, AllocError>
+    ensures { IfOk result (λ found. found ≡ class_refusal top.now) }
+{
+    if let Some(error) = unknown_cell(alloc, top)? {
+        return Ok(Some(error));
+    }
+    if let Some(error) = not_fine(alloc, top)? {
+        return Ok(Some(error));
+    }
+    asynchronous(alloc, top)
+}
+
+fn wiring_refusal(alloc: Global, top: &Module) -> Result<Option<NetError>, AllocError>
     ensures { IfOk result (λ found. found ≡ wiring_refusal top.now) }
 {
     if let Some(error) = bad_pins(alloc, top)? {
         return Ok(Some(error));
     }
-    port_refusal(alloc, top)
-}
-
-fn port_refusal(alloc: Global, top: &Module) -> Result<Option<NetError>, AllocError>
-    ensures { IfOk result (λ found. found ≡ port_refusal top.now) }
-{
     if let Some(error) = inout(alloc, top)? {
         return Ok(Some(error));
     }
     let bits = bits_of_cells(alloc, top.cells.as_slice())?;
-    if let Some(error) = driver_refusal(alloc, top, bits.as_slice())? {
+    bit_refusal(alloc, top, bits.as_slice())
+}
+
+fn bit_refusal(alloc: Global, top: &Module, bits: &[PinBit]) -> Result<Option<NetError>, AllocError>
+    requires pins { bad_pins top.now ≡ None }
+    requires bits { bits.now ≡ bits_of_cells top.now.cells }
+    ensures { IfOk result (λ found. found ≡ bit_refusal top.now) }
+{
+    if let Some(error) = driver_refusal(alloc, top, bits)? {
         return Ok(Some(error));
     }
-    let pins = clock_bits(alloc, bits.as_slice())?;
-    if let Some(error) = clock_refusal(alloc, top, bits.as_slice(), pins.as_slice())? {
+    let pins = clock_bits(alloc, bits)?;
+    if let Some(error) = clock_refusal(alloc, top, bits, pins.as_slice())? {
         return Ok(Some(error));
     }
-    name_refusal(alloc, top, pins.as_slice())
+    state_refusal(alloc, top, bits)
 }
 
 fn driver_refusal(
@@ -150,16 +173,28 @@ fn clock_in_data(top: &Module, bits: &[PinBit], pins: &[ClockBit]) -> Option<Net
     }
 }
 
-fn name_refusal(
+// The bits that input ports and cells drive.
+fn driven_set(alloc: Global, top: &Module, bits: &[PinBit]) -> Result<IndexSet<u32>, AllocError>
+    requires { bits.now ≡ bits_of_cells top.now.cells }
+    ensures { IfOk result (λ set. (b : ℕ) → contains nat_eq set b ≡ list_any (is_bit b) (driven_signals top.now)) }
+{
+    let numbers = driven_numbers(alloc, top, bits)?;
+    let set = number_set(alloc, numbers.as_slice())?;
+    Ok(set)
+}
+
+fn state_refusal(
     alloc: Global,
     top: &Module,
-    pins: &[ClockBit],
+    bits: &[PinBit],
 ) -> Result<Option<NetError>, AllocError>
-    requires { pins.now ≡ clock_bits_of top.now.cells }
-    ensures { IfOk result (λ found. found ≡ name_refusal top.now) }
+    requires pins { bad_pins top.now ≡ None }
+    requires bits { bits.now ≡ bits_of_cells top.now.cells }
+    ensures { IfOk result (λ found. found ≡ state_refusal top.now) }
 {
     if let Some(error) = two_starts(alloc, top)? {
         return Ok(Some(error));
     }
-    reserved(alloc, clock(top, pins), top)
+    let driven = driven_set(alloc, top, bits)?;
+    memory_form(alloc, top, &driven)
 }

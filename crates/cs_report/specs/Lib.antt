@@ -1,1 +1,4 @@
+pub mod Words
+pub mod Limits
+pub mod Refused
 pub mod FaultLines

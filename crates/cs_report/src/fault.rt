@@ -1,8 +1,13 @@
 // Why a run is refused, and the line that says so.
 ghost use Rattle.std.specs.Prelude.{◌≡◌, IfOk};
-ghost use Rattle.cs_report.specs.FaultLines.{line, fault_line};
+ghost use Rattle.cs_report.specs.FaultLines.{fault_line, fault_words, too_long};
+ghost use Rattle.cs_report.specs.Limits.{counted_words, limit_words};
 
-use cs_base::Text;
+use crate::refused::refused_text;
+use crate::words::{quoted_after, text_after};
+use cs_base::{Counted, LimitFault, Text};
+use cs_json::Place;
+use cs_net::NetError;
 use std::alloc::{AllocError, Global};
 
 /// What a refused run tells.
@@ -16,29 +21,81 @@ pub enum Fault {
     CannotRead(Text),
     /// The file of this name can't be written.
     CannotWrite(Text),
-    /// The document is in no form that is handled yet.
+    /// A document's bytes are no JSON.
+    DocumentNotJson,
+    /// A document is refused at this place.
+    DocumentShape(Place),
+    /// A document is no netlist.
+    Refused(NetError),
+    /// A count is above its limit.
+    Limit(LimitFault),
+    /// The file of this name has more than 67,108,864 bytes.
+    FileTooLong(Text),
+    /// The netlist is in no form that is handled yet.
     NotBuilt,
+    /// This cell of the netlist isn't handled yet.
+    NotBuiltCell(Text),
 }
 
-/// The line of a fault, with its newline.
-pub fn fault_text(alloc: Global, fault: &Fault) -> Result<Vec<u8>, AllocError>
-    ensures { IfOk result (λ text. text.items ≡ fault_line fault.now) }
+fn counted_words(what: Counted) -> &'static str
+    ensures { result.now ≡ counted_words what }
 {
-    match fault {
-        Fault::NoMemory => line(alloc, b"out of memory", ""),
-        Fault::WordsOf(command) => line(alloc, b"usage: words of ", command.as_str()),
-        Fault::CannotRead(name) => line(alloc, b"cannot read ", name.as_str()),
-        Fault::CannotWrite(name) => line(alloc, b"cannot write ", name.as_str()),
-        Fault::NotBuilt => line(alloc, b"not built", ""),
+    match what {
+        Counted::Cells => "cells",
+        Counted::AddressBits => "address bits",
+        Counted::MemoryBits => "memory bits",
+        Counted::ReadBits => "read bits",
+        Counted::Vertices => "vertices",
+        Counted::Edges => "edges",
+        Counted::Weight => "weight",
+        Counted::Variables => "variables",
+        Counted::Instances => "instances",
+        Counted::Bits => "bits",
     }
 }
 
-fn line(alloc: Global, before: &[u8], name: &str) -> Result<Vec<u8>, AllocError>
-    ensures { IfOk result (λ text. text.items ≡ line before.now name.now) }
+/// A count above its limit, in words.
+pub(crate) fn limit_text(alloc: Global, fault: LimitFault) -> Result<Text, AllocError>
+    ensures { IfOk result (λ text. text ≡ limit_words fault) }
 {
+    let words = counted_words(fault.what);
+    let LimitFault { found, most, .. } = fault;
+    Ok(Text::from_string(format!(in alloc; "limit: {words} {found} above {most}")?))
+}
+
+fn too_long(alloc: Global, name: &str) -> Result<Text, AllocError>
+    ensures { IfOk result (λ text. text ≡ too_long name.now) }
+{
+    Ok(Text::from_string(format!(in alloc; "limit: {name} is longer than 67108864 bytes")?))
+}
+
+fn fault_words(alloc: Global, fault: &Fault) -> Result<Text, AllocError>
+    ensures { IfOk result (λ text. text ≡ fault_words fault.now) }
+{
+    match fault {
+        Fault::NoMemory => Text::from_str(alloc, "out of memory"),
+        Fault::WordsOf(command) => text_after(alloc, "usage: words of ", command.as_str()),
+        Fault::CannotRead(name) => text_after(alloc, "cannot read ", name.as_str()),
+        Fault::CannotWrite(name) => text_after(alloc, "cannot write ", name.as_str()),
+        Fault::DocumentNotJson => Text::from_str(alloc, "document: not json"),
+        Fault::DocumentShape(place) => {
+            text_after(alloc, "document: bad shape at ", place.path.as_str())
+        }
+        Fault::Refused(error) => refused_text(alloc, error),
+        Fault::Limit(fault) => limit_text(alloc, *fault),
+        Fault::FileTooLong(name) => too_long(alloc, name.as_str()),
+        Fault::NotBuilt => Text::from_str(alloc, "not built"),
+        Fault::NotBuiltCell(name) => quoted_after(alloc, "not built: ", name.as_str()),
+    }
+}
+
+/// The line of a fault, with its newline. A name in quotes is in its JSON spelling.
+pub fn fault_text(alloc: Global, fault: &Fault) -> Result<Vec<u8>, AllocError>
+    ensures { IfOk result (λ text. text.items ≡ fault_line fault.now) }
+{
+    let words = fault_words(alloc, fault)?;
     let mut text = Vec::new(alloc);
-    text.extend_from_slice(before)?;
-    text.extend_from_slice(name.as_bytes())?;
+    text.extend_from_slice(words.as_str().as_bytes())?;
     text.push(b'\n')?;
     Ok(text)
 }

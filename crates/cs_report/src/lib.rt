@@ -2,6 +2,8 @@
 #![tactic(auto)]
 
 mod fault;
+mod refused;
+mod words;
 
 pub use fault::{Fault, fault_text};
 

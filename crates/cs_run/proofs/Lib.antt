@@ -1,3 +1,4 @@
+pub mod ReasonLemmas
 pub mod Ran
 pub mod FileLemmas
 pub mod PromiseLemmas

@@ -1,32 +1,33 @@
 -- What each promise of a run takes from the table of statuses.
-use Rattle.std.proofs.Common.{◌≡◌, ℕ, ◌<◌, ◌≤◌, List, [], ◌∷◌, ◌++◌, length, Option, Some, None, MatchOption, Contains, sym, subst, ap, ◌∙◌, ◌⊎◌, inl, inr, refl, arith, length-append}
+use Rattle.std.proofs.Common.{◌≡◌, ℕ, List, [], ◌∷◌, ◌++◌, length, true, false, cond, Option, Some, None, Contains, sym, subst, ap, ◌∙◌, ◌⊎◌, inl, inr, refl, arith, length-append}
 use Rattle.std.specs.Prelude.{◌==◌, if◌then◌else◌}
 use Rattle.cs_io.specs.Sinks.{appended}
 use Rattle.cs_io.specs.Stores.{with_file, StoreState, Files, FileHas, FailsToWrite}
-use Rattle.cs_report.specs.declared.fault.Fault.TheVariants.{NotBuilt as NothingBuilt}
-use Rattle.cs_report.specs.FaultLines.{fault_line}
 use Rattle.cs_words.specs.declared.command.Command.{Command}
 use Rattle.cs_words.specs.declared.command.Command.TheVariants.{Slow}
 use Rattle.cs_words.specs.declared.command.SlowWords.{SlowWords}
 use Rattle.cs_words.specs.Commands.{command_of}
 use Rattle.cs_run.specs.declared.status.Status.{Status}
-use Rattle.cs_run.specs.declared.status.Status.TheVariants.{Done, NoMemory, Usage, ReadFault, WriteFault, NotBuilt}
+use Rattle.cs_run.specs.declared.status.Status.TheVariants.{Done, NoMemory, Usage, ReadFault, WriteFault, DocumentFault, NetlistFault, Limit, NotBuilt}
 use Rattle.cs_run.specs.declared.reply.Reply.{Reply}
 use Rattle.cs_run.specs.declared.reply.NewFile.{NewFile}
 use Rattle.cs_run.specs.Bytes.{BytesIsolate}
-use Rattle.cs_run.specs.Inputs.{most_bytes}
+use Rattle.cs_net.specs.Accept.{is_limit}
 use Rattle.cs_run.specs.Replies.{refusal}
-use Rattle.cs_run.specs.Slow.{AnswersSlow, AnswersBytes, written, done}
+use Rattle.cs_run.specs.Slow.{AnswersSlow, HasReason, IsBuilt, Reason, done, line_of, status_of, too_long, not_json, bad_shape, refused, not_built}
 use Rattle.cs_run.specs.Statuses.{code_of}
 use Rattle.cs_run.specs.Outcomes.{World, AnswersFiles, after_writes, StopsAtWrite, StopsPutting, Puts, PutsSome, PutsText, status_unput, read_names, Finished, CouldNotWrite, Ran, write_names}
-use Rattle.cs_run.specs.Promises.{file_in, OthersStay, HasInput, IsNotBuilt, IsBuilt, Builds, HasWritten, CouldNotWriteOut, RefusedInput, HasNoFault}
+use Rattle.cs_run.specs.Promises.{file_in, OthersStay, HasInput, Builds, HasWritten, CouldNotWriteOut, RefusedInput, HasNoFault}
+use Rattle.cs_run.proofs.ReasonLemmas.{never_both, one_built, one_status}
 use Rattle.cs_run.proofs.FileLemmas.{has_weaker, has_at, told_file, others_after, others_after_failure, puts_nothing}
 
 -- ---- a status is known by its number
 
 status_at : ℕ → Status
 status_at n =
-    if n == 0 then Done else (if n == 1 then NoMemory else (if n == 2 then Usage else (if n == 3 then ReadFault else (if n == 4 then WriteFault else NotBuilt))))
+    if n == 0 then Done else (if n == 1 then NoMemory else (if n == 2 then Usage else (if n == 3 then ReadFault
+    else (if n == 4 then WriteFault else (if n == 5 then DocumentFault else (if n == 6 then NetlistFault
+    else (if n == 8 then Limit else NotBuilt)))))))
 
 status_at-code_of : (s : Status) → status_at (code_of s) ≡ s
 unfolding status_at
@@ -35,6 +36,9 @@ status_at-code_of NoMemory = refl
 status_at-code_of Usage = refl
 status_at-code_of ReadFault = refl
 status_at-code_of WriteFault = refl
+status_at-code_of DocumentFault = refl
+status_at-code_of NetlistFault = refl
+status_at-code_of Limit = refl
 status_at-code_of NotBuilt = refl
 
 pub same_status : (s t : Status) → code_of s ≡ code_of t → s ≡ t
@@ -51,35 +55,43 @@ record WritesNetlist (slow : SlowWords) (files : Option Files) (reply : Reply) :
   isolates : BytesIsolate slow.contexts bytes netlist
   is : reply ≡ done slow netlist
 
-bytes_done : (slow : SlowWords) (files : Option Files) (bytes : List ℕ) (reply : Reply) → FileHas files slow.input (λ found. found ≡ bytes) → length bytes ≤ most_bytes →
-    AnswersBytes slow bytes reply → reply.status ≡ Done → WritesNetlist slow files reply
-bytes_done slow files bytes reply has fits answers to =
-    elim (written slow.contexts bytes) as (λ found. written slow.contexts bytes ≡ found → MatchOption found (reply ≡ refusal NotBuilt (fault_line NothingBuilt)) (λ netlist. (reply ≡ done slow netlist) × BytesIsolate slow.contexts bytes netlist) → WritesNetlist slow files reply) [
-      | None ↦ λ is refuses. let other : reply.status ≡ NotBuilt = ap (λ (r : Reply). r.status) refuses in absurd (cc)
-      | Some netlist ↦ λ is does. record { netlist = netlist; bytes = bytes; input = has; built = record { fits = fits; is = is }; isolates = does.1; is = does.0 }
-    ] refl answers
+-- no reason makes a command done
+never_done : (reason : Reason) → status_of reason ≡ Done → ⊥
+never_done too_long is = absurd (cc)
+never_done not_json is = absurd (cc)
+never_done (bad_shape place) is = absurd (cc)
+never_done (refused error) is =
+    elim (is_limit error) as (λ t. cond t Limit NetlistFault ≡ Done → ⊥) [ true ↦ λ h. absurd (cc) | false ↦ λ h. absurd (cc) ] is
+never_done (not_built error) is = absurd (cc)
 
 reply_done : (slow : SlowWords) (files : Option Files) (reply : Reply) → AnswersSlow slow files reply → reply.status ≡ Done → WritesNetlist slow files reply
-reply_done slow files reply (inl (long, refuses)) to = let other : reply.status ≡ NotBuilt = ap (λ (r : Reply). r.status) refuses in absurd (cc)
-reply_done slow files reply (inr (bytes, has, fits, answers)) to = bytes_done slow files bytes reply has fits answers to
+reply_done slow files reply (inl (long, is)) to = let other : reply.status ≡ Limit = ap (λ (r : Reply). r.status) is in absurd (cc)
+reply_done slow files reply (inr (bytes, has, fits, inl writes)) to =
+    record { netlist = writes.netlist; bytes = bytes; input = has; built = writes.built; isolates = writes.isolates; is = writes.is }
+reply_done slow files reply (inr (bytes, has, fits, inr refuses)) to =
+    absurd (never_done refuses.reason (sym (ap (λ (r : Reply). r.status) refuses.is) ∙ to))
 
--- a reply that is not built refuses a file for which no netlist is built
-record RefusesFile (slow : SlowWords) (files : Option Files) (reply : Reply) : Type 0 where
-  input : FileHas files slow.input (IsNotBuilt slow.contexts)
-  is : reply ≡ refusal NotBuilt (fault_line NothingBuilt)
+-- a reply with another status refuses a file for a reason that it has
+record RefusesFile (slow : SlowWords) (files : Option Files) (reply : Reply) (status : Status) : Type 0 where
+  reason : Reason
+  input : FileHas files slow.input (λ bytes. HasReason bytes reason)
+  to : status_of reason ≡ status
+  is : reply ≡ refusal (status_of reason) (line_of slow.input reason)
 
-bytes_refused : (slow : SlowWords) (files : Option Files) (bytes : List ℕ) (reply : Reply) → FileHas files slow.input (λ found. found ≡ bytes) →
-    AnswersBytes slow bytes reply → reply.status ≡ NotBuilt → RefusesFile slow files reply
-bytes_refused slow files bytes reply has answers to =
-    elim (written slow.contexts bytes) as (λ found. written slow.contexts bytes ≡ found → MatchOption found (reply ≡ refusal NotBuilt (fault_line NothingBuilt)) (λ netlist. (reply ≡ done slow netlist) × BytesIsolate slow.contexts bytes netlist) → RefusesFile slow files reply) [
-      | None ↦ λ is refuses. record { input = has_weaker files slow.input (λ found. found ≡ bytes) (IsNotBuilt slow.contexts) (λ found same. inr (ap (written slow.contexts) same ∙ is)) has; is = refuses }
-      | Some netlist ↦ λ is does. let other : reply.status ≡ Done = ap (λ (r : Reply). r.status) does.0 in absurd (cc)
-    ] refl answers
-
-reply_refused : (slow : SlowWords) (files : Option Files) (reply : Reply) → AnswersSlow slow files reply → reply.status ≡ NotBuilt → RefusesFile slow files reply
-reply_refused slow files reply (inl (long, refuses)) to =
-    record { input = has_weaker files slow.input (λ bytes. most_bytes < length bytes) (IsNotBuilt slow.contexts) (λ bytes above. inl above) long; is = refuses }
-reply_refused slow files reply (inr (bytes, has, fits, answers)) to = bytes_refused slow files bytes reply has answers to
+reply_refused : (slow : SlowWords) (files : Option Files) (reply : Reply) (status : Status) → AnswersSlow slow files reply → reply.status ≡ status →
+    (status ≡ Done → ⊥) → RefusesFile slow files reply status
+reply_refused slow files reply status (inl (long, is)) to other =
+    record { reason = too_long; input = long; to = sym (ap (λ (r : Reply). r.status) is) ∙ to; is = is }
+reply_refused slow files reply status (inr (bytes, has, fits, inl writes)) to other =
+    absurd (other (sym to ∙ ap (λ (r : Reply). r.status) writes.is))
+reply_refused slow files reply status (inr (bytes, has, fits, inr refuses)) to other =
+    record {
+      reason = refuses.reason;
+      input = has_weaker files slow.input (λ found. found ≡ bytes) (λ found. HasReason found refuses.reason)
+          (λ found same. subst (λ b. HasReason b refuses.reason) (sym same) refuses.has) has;
+      to = sym (ap (λ (r : Reply). r.status) refuses.is) ∙ to;
+      is = refuses.is;
+    }
 
 -- ---- status 0
 
@@ -140,27 +152,42 @@ of_unwritten words old new (Slow slow) reply says answers to stops =
 pub at_write_fault : (words : List (List ℕ)) (old new : World) → CouldNotWrite words old new → CouldNotWriteOut words old new
 at_write_fault words old new f = of_unwritten words old new f.command f.reply f.says f.answers f.to f.stops
 
--- ---- status 99
+-- ---- statuses 5, 6, 8 and 99
 
-refused_text : (old new : World) (reply : Reply) → reply ≡ refusal NotBuilt (fault_line NothingBuilt) → PutsText reply old.sink new.sink NotBuilt →
-    PutsSome old.sink new.sink (fault_line NothingBuilt)
-refused_text old new reply is (inl (to, puts)) = inl (subst (λ (r : Reply). Puts old.sink new.sink r.text) is puts)
-refused_text old new reply is (inr (to, stops)) = inr (subst (λ (r : Reply). StopsPutting old.sink new.sink r.text) is stops)
+refused_text : (old new : World) (reply : Reply) (status given : Status) (line : List ℕ) → reply ≡ refusal given line → PutsText reply old.sink new.sink status →
+    PutsSome old.sink new.sink line
+refused_text old new reply status given line is (inl (to, puts)) = inl (subst (λ (r : Reply). Puts old.sink new.sink r.text) is puts)
+refused_text old new reply status given line is (inr (to, stops)) = inr (subst (λ (r : Reply). StopsPutting old.sink new.sink r.text) is stops)
 
-of_refused : (words : List (List ℕ)) (old new : World) (command : Command) (reply : Reply) → command_of words ≡ Some command → AnswersFiles command old.store.files reply →
-    reply.status ≡ NotBuilt → PutsText reply old.sink new.sink NotBuilt → new.store ≡ after_writes old.store reply.writes → RefusedInput words old new
-of_refused words old new (Slow slow) reply says answers to puts store =
-    let refuses = reply_refused slow old.store.files reply answers to in
+of_refused : (words : List (List ℕ)) (old new : World) (status : Status) (command : Command) (reply : Reply) → command_of words ≡ Some command →
+    AnswersFiles command old.store.files reply → reply.status ≡ status → PutsText reply old.sink new.sink status →
+    new.store ≡ after_writes old.store reply.writes → (status ≡ Done → ⊥) → RefusedInput words old new status
+of_refused words old new status (Slow slow) reply says answers to puts store other =
+    let refuses = reply_refused slow old.store.files reply status answers to other in
     record {
       slow = slow;
+      reason = refuses.reason;
       says = says;
       input = refuses.input;
+      to = refuses.to;
       store = store ∙ ap (λ (r : Reply). after_writes old.store r.writes) refuses.is;
-      sink = refused_text old new reply refuses.is puts;
+      sink = refused_text old new reply status (status_of refuses.reason) (line_of slow.input refuses.reason) refuses.is puts;
     }
 
-pub at_not_built : (words : List (List ℕ)) (old new : World) → Finished words old new NotBuilt → RefusedInput words old new
-at_not_built words old new f = of_refused words old new f.command f.reply f.says f.answers f.to f.sink f.store
+pub at_refused : (words : List (List ℕ)) (old new : World) (status : Status) → (status ≡ Done → ⊥) → Finished words old new status → RefusedInput words old new status
+at_refused words old new status other f = of_refused words old new status f.command f.reply f.says f.answers f.to f.sink f.store other
+
+pub at_document_fault : (words : List (List ℕ)) (old new : World) → Finished words old new DocumentFault → RefusedInput words old new DocumentFault
+at_document_fault words old new f = at_refused words old new DocumentFault (λ is. absurd (cc)) f
+
+pub at_netlist_fault : (words : List (List ℕ)) (old new : World) → Finished words old new NetlistFault → RefusedInput words old new NetlistFault
+at_netlist_fault words old new f = at_refused words old new NetlistFault (λ is. absurd (cc)) f
+
+pub at_limit : (words : List (List ℕ)) (old new : World) → Finished words old new Limit → RefusedInput words old new Limit
+at_limit words old new f = at_refused words old new Limit (λ is. absurd (cc)) f
+
+pub at_not_built : (words : List (List ℕ)) (old new : World) → Finished words old new NotBuilt → RefusedInput words old new NotBuilt
+at_not_built words old new f = at_refused words old new NotBuilt (λ is. absurd (cc)) f
 
 -- ---- one file of one command
 
@@ -176,34 +203,49 @@ built_here words files slow other bytes netlist input builds =
     sym (has_at files slow.input bytes (λ found. found ≡ builds.bytes) input.input (subst (λ (s : SlowWords). FileHas files s.input (λ found. found ≡ builds.bytes)) same builds.input)) in
     subst (λ b. IsBuilt slow.contexts b netlist) read (subst (λ (s : SlowWords). IsBuilt s.contexts builds.bytes netlist) same builds.built)
 
-refused_here : (words : List (List ℕ)) (files : Option Files) (slow other : SlowWords) (bytes : List ℕ) → HasInput words files slow bytes → command_of words ≡ Some (Slow other) →
-    FileHas files other.input (IsNotBuilt other.contexts) → IsNotBuilt slow.contexts bytes
-refused_here words files slow other bytes input says refused =
+refused_here : (words : List (List ℕ)) (files : Option Files) (slow other : SlowWords) (bytes : List ℕ) (reason : Reason) → HasInput words files slow bytes →
+    command_of words ≡ Some (Slow other) → FileHas files other.input (λ b. HasReason b reason) → HasReason bytes reason
+refused_here words files slow other bytes reason input says found =
     let same : other ≡ slow = same_slow words other slow says input.says in
-    has_at files slow.input bytes (IsNotBuilt slow.contexts) input.input (subst (λ (s : SlowWords). FileHas files s.input (IsNotBuilt s.contexts)) same refused)
-
-never_both : (contexts : ℕ) (bytes netlist : List ℕ) → IsBuilt contexts bytes netlist → IsNotBuilt contexts bytes → ⊥
-never_both contexts bytes netlist built (inl long) = let fits = built.fits in omega arith
-never_both contexts bytes netlist built (inr none) = let is = built.is in cc
+    has_at files slow.input bytes (λ b. HasReason b reason) input.input (subst (λ (s : SlowWords). FileHas files s.input (λ b. HasReason b reason)) same found)
 
 -- ---- exactly where, and completeness
 
-pub not_built : (words : List (List ℕ)) (old new : World) (s : Status) → Ran words old new s →
-    (slow : SlowWords) (bytes : List ℕ) → HasInput words old.store.files slow bytes → IsNotBuilt slow.contexts bytes →
-    (s ≡ NotBuilt) ⊎ ((s ≡ NoMemory) ⊎ (s ≡ ReadFault))
-not_built words old new Done ran slow bytes input not =
+-- a refusal is that of the reason
+by_reason : (words : List (List ℕ)) (old new : World) (status : Status) → RefusedInput words old new status →
+    (slow : SlowWords) (bytes : List ℕ) (reason : Reason) → HasInput words old.store.files slow bytes → HasReason bytes reason → status ≡ status_of reason
+by_reason words old new status did slow bytes reason input has =
+    sym did.to ∙ one_status bytes did.reason reason (refused_here words old.store.files slow did.slow bytes did.reason input did.says did.input) has
+
+pub refused_comes : (words : List (List ℕ)) (old new : World) (s : Status) → Ran words old new s →
+    (slow : SlowWords) (bytes : List ℕ) (reason : Reason) → HasInput words old.store.files slow bytes → HasReason bytes reason →
+    (s ≡ status_of reason) ⊎ ((s ≡ NoMemory) ⊎ (s ≡ ReadFault))
+refused_comes words old new Done ran slow bytes reason input has =
     let did = at_done words old new ran in
-    absurd (never_both slow.contexts bytes did.netlist (built_here words old.store.files slow did.slow bytes did.netlist input did.builds) not)
-not_built words old new NoMemory ran slow bytes input not = inr (inl refl)
-not_built words old new Usage ran slow bytes input not = let none = ran.none in let some = input.says in absurd (cc)
-not_built words old new ReadFault ran slow bytes input not = inr (inr refl)
-not_built words old new WriteFault ran slow bytes input not =
+    absurd (never_both slow.contexts bytes did.netlist reason (built_here words old.store.files slow did.slow bytes did.netlist input did.builds) has)
+refused_comes words old new NoMemory ran slow bytes reason input has = inr (inl refl)
+refused_comes words old new Usage ran slow bytes reason input has = let none = ran.none in let some = input.says in absurd (cc)
+refused_comes words old new ReadFault ran slow bytes reason input has = inr (inr refl)
+refused_comes words old new WriteFault ran slow bytes reason input has =
     let did = at_write_fault words old new ran in
-    absurd (never_both slow.contexts bytes did.netlist (built_here words old.store.files slow did.slow bytes did.netlist input did.builds) not)
-not_built words old new NotBuilt ran slow bytes input not = inl refl
+    absurd (never_both slow.contexts bytes did.netlist reason (built_here words old.store.files slow did.slow bytes did.netlist input did.builds) has)
+refused_comes words old new DocumentFault ran slow bytes reason input has =
+    inl (by_reason words old new DocumentFault (at_document_fault words old new ran) slow bytes reason input has)
+refused_comes words old new NetlistFault ran slow bytes reason input has =
+    inl (by_reason words old new NetlistFault (at_netlist_fault words old new ran) slow bytes reason input has)
+refused_comes words old new Limit ran slow bytes reason input has =
+    inl (by_reason words old new Limit (at_limit words old new ran) slow bytes reason input has)
+refused_comes words old new NotBuilt ran slow bytes reason input has =
+    inl (by_reason words old new NotBuilt (at_not_built words old new ran) slow bytes reason input has)
 
 grown : (names : List (List ℕ)) (name : List ℕ) → names ++ name ∷ [] ≡ names → ⊥
 grown names name same = let longer = ap length same in omega (arith, longer, length-append names (name ∷ []))
+
+not_refused : {A : Type 0} (words : List (List ℕ)) (old new : World) (status : Status) (slow : SlowWords) (bytes netlist : List ℕ) →
+    HasInput words old.store.files slow bytes → IsBuilt slow.contexts bytes netlist → RefusedInput words old new status → A
+not_refused words old new status slow bytes netlist input built did =
+    absurd (never_both slow.contexts bytes netlist did.reason built
+    (refused_here words old.store.files slow did.slow bytes did.reason input did.says did.input))
 
 pub complete : (words : List (List ℕ)) (old new : World) (s : Status) → Ran words old new s →
     (slow : SlowWords) (bytes netlist : List ℕ) → HasInput words old.store.files slow bytes → IsBuilt slow.contexts bytes netlist → HasNoFault old new →
@@ -215,9 +257,14 @@ complete words old new ReadFault ran slow bytes netlist input built no_fault =
     absurd (grown old.store.failed ran.name (sym (ap (λ (s : StoreState). s.failed) ran.store) ∙ no_fault.reads))
 complete words old new WriteFault ran slow bytes netlist input built no_fault =
     let did = at_write_fault words old new ran in absurd (no_fault.writes did.store.faults)
+complete words old new DocumentFault ran slow bytes netlist input built no_fault =
+    not_refused words old new DocumentFault slow bytes netlist input built (at_document_fault words old new ran)
+complete words old new NetlistFault ran slow bytes netlist input built no_fault =
+    not_refused words old new NetlistFault slow bytes netlist input built (at_netlist_fault words old new ran)
+complete words old new Limit ran slow bytes netlist input built no_fault =
+    not_refused words old new Limit slow bytes netlist input built (at_limit words old new ran)
 complete words old new NotBuilt ran slow bytes netlist input built no_fault =
-    let did = at_not_built words old new ran in
-    absurd (never_both slow.contexts bytes netlist built (refused_here words old.store.files slow did.slow bytes input did.says did.input))
+    not_refused words old new NotBuilt slow bytes netlist input built (at_not_built words old new ran)
 
 pub usage : (words : List (List ℕ)) (old new : World) (s : Status) → Ran words old new s → command_of words ≡ None → (s ≡ Usage) ⊎ (s ≡ NoMemory)
 usage words old new Done ran none = let some = ran.says in absurd (cc)
@@ -228,6 +275,9 @@ usage words old new ReadFault ran none = absurd (no_names (read_names words) ran
     no_names : (names : List (List ℕ)) (name : List ℕ) → names ≡ [] → Contains names name → ⊥
     no_names names name empty (index, below, is) = let short = ap length empty in omega arith
 usage words old new WriteFault ran none = let some = ran.says in absurd (cc)
+usage words old new DocumentFault ran none = let some = ran.says in absurd (cc)
+usage words old new NetlistFault ran none = let some = ran.says in absurd (cc)
+usage words old new Limit ran none = let some = ran.says in absurd (cc)
 usage words old new NotBuilt ran none = let some = ran.says in absurd (cc)
 
 -- ---- what OUT holds
@@ -239,16 +289,16 @@ same_bytes words files slow other bytes netlist input builds =
     let same : other ≡ slow = same_slow words other slow builds.says input.says in
     (same, sym (has_at files slow.input bytes (λ found. found ≡ builds.bytes) input.input (subst (λ (s : SlowWords). FileHas files s.input (λ found. found ≡ builds.bytes)) same builds.input)))
 
-pub output : (words : List (List ℕ)) (old new : World) → Ran words old new Done → (slow : SlowWords) (bytes : List ℕ) → HasInput words old.store.files slow bytes →
-    file_in new.store.files slow.output ≡ Some (written slow.contexts bytes)
-output words old new ran slow bytes input =
+pub output : (words : List (List ℕ)) (old new : World) → Ran words old new Done → (slow : SlowWords) (bytes netlist : List ℕ) → HasInput words old.store.files slow bytes →
+    IsBuilt slow.contexts bytes netlist → file_in new.store.files slow.output ≡ Some (Some netlist)
+output words old new ran slow bytes netlist input is_built =
     let did = at_done words old new ran in
     let built = built_here words old.store.files slow did.slow bytes did.netlist input did.builds in
     let same = (same_bytes words old.store.files slow did.slow bytes did.netlist input did.builds).0 in
     ap (λ (s : StoreState). file_in s.files slow.output) did.store
     ∙ ap (λ (s : SlowWords). file_in (with_file old.store.files s.output did.netlist) slow.output) same
     ∙ told_file old.store.files slow.output slow.input bytes did.netlist input.input
-    ∙ ap Some (sym built.is)
+    ∙ ap (λ n. Some (Some n)) (one_built slow.contexts bytes did.netlist netlist built is_built)
 
 pub isolates : (words : List (List ℕ)) (old new : World) → Ran words old new Done → (slow : SlowWords) (bytes netlist : List ℕ) → HasInput words old.store.files slow bytes →
     file_in new.store.files slow.output ≡ Some (Some netlist) → BytesIsolate slow.contexts bytes netlist
@@ -256,7 +306,7 @@ isolates words old new ran slow bytes netlist input holds =
     let did = at_done words old new ran in
     let same = same_bytes words old.store.files slow did.slow bytes did.netlist input did.builds in
     let built = built_here words old.store.files slow did.slow bytes did.netlist input did.builds in
-    let there : Some (Some did.netlist) ≡ Some (Some netlist) = ap Some (sym built.is) ∙ sym (output words old new ran slow bytes input) ∙ holds in
+    let there : Some (Some did.netlist) ≡ Some (Some netlist) = sym (output words old new ran slow bytes did.netlist input built) ∙ holds in
     let one : did.netlist ≡ netlist = cc in
     subst (λ n. BytesIsolate slow.contexts bytes n) one
     (subst (λ b. BytesIsolate slow.contexts b did.netlist) same.1
@@ -278,4 +328,7 @@ others words old new ReadFault ran = λ other outside. ap (λ (s : StoreState). 
 others words old new WriteFault ran =
     let did = at_write_fault words old new ran in
     others_after_failure (write_names words) old.store new.store did.slow.output did.netlist (written_name words did.slow did.builds.says) did.store
+others words old new DocumentFault ran = λ other outside. let did = at_document_fault words old new ran in ap (λ (s : StoreState). file_in s.files other) did.store
+others words old new NetlistFault ran = λ other outside. let did = at_netlist_fault words old new ran in ap (λ (s : StoreState). file_in s.files other) did.store
+others words old new Limit ran = λ other outside. let did = at_limit words old new ran in ap (λ (s : StoreState). file_in s.files other) did.store
 others words old new NotBuilt ran = λ other outside. let did = at_not_built words old new ran in ap (λ (s : StoreState). file_in s.files other) did.store

@@ -1,18 +1,16 @@
 -- From what a run read and carried out to the table of statuses.
-use Rattle.std.proofs.Common.{◌≡◌, ℕ, List, Some, None, MatchOption, Contains, sym, subst, ap, ◌∙◌, inl, inr, refl}
+use Rattle.std.proofs.Common.{◌≡◌, ℕ, List, Some, None, MatchOption, Contains, sym, subst, ap, ◌∙◌, inl, inr, refl, true, false, cond}
 use Rattle.cs_io.specs.Stores.{StoreState}
-use Rattle.cs_report.specs.declared.fault.Fault.TheVariants.{NotBuilt as NothingBuilt}
-use Rattle.cs_report.specs.FaultLines.{fault_line}
 use Rattle.cs_words.specs.declared.command.Command.{Command}
 use Rattle.cs_words.specs.declared.command.Command.TheVariants.{Slow}
 use Rattle.cs_words.specs.declared.command.SlowWords.{SlowWords}
 use Rattle.cs_words.specs.Commands.{command_of}
-use Rattle.cs_run.specs.Bytes.{BytesIsolate}
+use Rattle.cs_net.specs.Accept.{is_limit}
 use Rattle.cs_run.specs.declared.status.Status.{Status}
-use Rattle.cs_run.specs.declared.status.Status.TheVariants.{Done, Usage, ReadFault, WriteFault, NotBuilt}
+use Rattle.cs_run.specs.declared.status.Status.TheVariants.{Done, Usage, ReadFault, WriteFault, NetlistFault, Limit}
 use Rattle.cs_run.specs.declared.reply.Reply.{Reply}
 use Rattle.cs_run.specs.Replies.{refusal}
-use Rattle.cs_run.specs.Slow.{AnswersSlow, AnswersBytes, written, done}
+use Rattle.cs_run.specs.Slow.{AnswersSlow, Reason, line_of, status_of, too_long, not_json, bad_shape, refused, not_built}
 use Rattle.cs_run.specs.Outcomes.{World, world, RepliesTo, HasReply, NotesFailure, AnswersFiles, CarriesOut, status_unput, Finished, Ran, read_names, misused, unread}
 
 at_status : (words : List (List ℕ)) (old new : World) (status answered : Status) →
@@ -39,17 +37,17 @@ of_reading words old new mid name status among notes (inl (store, inr (to, stops
 of_reading words old new mid name status among notes (inr (to, stops)) = absurd stops.1
 
 -- a command is refused with a line, and the status stays whatever becomes of the line
-of_refusal : (words : List (List ℕ)) (command : Command) (old new : World) (refused : Status) (line : List ℕ) (status : Status) →
-    status_unput refused ≡ refused → (Finished words old new refused → Ran words old new refused) →
-    command_of words ≡ Some command → AnswersFiles command old.store.files (refusal refused line) →
-    CarriesOut (refusal refused line) old new status → Ran words old new status
-of_refusal words command old new refused line status stays row is answers (inl (store, inl (to, put))) =
-    at_status words old new refused status to
-    (row (record { command = command; reply = refusal refused line; says = is; answers = answers; to = refl; store = store; sink = inl (refl, put) }))
-of_refusal words command old new refused line status stays row is answers (inl (store, inr (to, stops))) =
-    at_status words old new refused status (to ∙ stays)
-    (row (record { command = command; reply = refusal refused line; says = is; answers = answers; to = refl; store = store; sink = inr (sym stays, stops) }))
-of_refusal words command old new refused line status stays row is answers (inr (to, stops)) = absurd stops.1
+of_refusal : (words : List (List ℕ)) (command : Command) (old new : World) (given : Status) (line : List ℕ) (status : Status) →
+    status_unput given ≡ given → (Finished words old new given → Ran words old new given) →
+    command_of words ≡ Some command → AnswersFiles command old.store.files (refusal given line) →
+    CarriesOut (refusal given line) old new status → Ran words old new status
+of_refusal words command old new given line status stays row is answers (inl (store, inl (to, put))) =
+    at_status words old new given status to
+    (row (record { command = command; reply = refusal given line; says = is; answers = answers; to = refl; store = store; sink = inl (refl, put) }))
+of_refusal words command old new given line status stays row is answers (inl (store, inr (to, stops))) =
+    at_status words old new given status (to ∙ stays)
+    (row (record { command = command; reply = refusal given line; says = is; answers = answers; to = refl; store = store; sink = inr (sym stays, stops) }))
+of_refusal words command old new given line status stays row is answers (inr (to, stops)) = absurd stops.1
 
 -- a command is done, up to its writes and its text
 of_done : (words : List (List ℕ)) (command : Command) (old new : World) (reply : Reply) (status : Status) → reply.status ≡ Done →
@@ -66,25 +64,38 @@ of_done words command old new reply status to_done is answers (inr (to, stops)) 
 
 -- ---- slow
 
-of_bytes : (words : List (List ℕ)) (slow : SlowWords) (old new : World) (bytes : List ℕ) (reply : Reply) (status : Status) →
+-- a refusal of IN is a row of the table, and its status stays whatever becomes of its line
+record IsRow (words : List (List ℕ)) (old new : World) (status : Status) : Type 0 where
+  stays : status_unput status ≡ status
+  row : Finished words old new status → Ran words old new status
+
+row_of : (words : List (List ℕ)) (old new : World) (reason : Reason) → IsRow words old new (status_of reason)
+row_of words old new too_long = record { stays = refl; row = λ row. row }
+row_of words old new not_json = record { stays = refl; row = λ row. row }
+row_of words old new (bad_shape place) = record { stays = refl; row = λ row. row }
+row_of words old new (refused error) =
+    elim (is_limit error) as (λ t. IsRow words old new (cond t Limit NetlistFault)) [
+      | true ↦ record { stays = refl; row = λ row. row }
+      | false ↦ record { stays = refl; row = λ row. row }
+    ]
+row_of words old new (not_built error) = record { stays = refl; row = λ row. row }
+
+of_reason : (words : List (List ℕ)) (slow : SlowWords) (old new : World) (reason : Reason) (reply : Reply) (status : Status) →
     command_of words ≡ Some (Slow slow) → AnswersSlow slow old.store.files reply →
-    AnswersBytes slow bytes reply → CarriesOut reply old new status → Ran words old new status
-of_bytes words slow old new bytes reply status is asked answers carried =
-    elim (written slow.contexts bytes) as (λ found. MatchOption found (reply ≡ refusal NotBuilt (fault_line NothingBuilt)) (λ netlist. (reply ≡ done slow netlist) × BytesIsolate slow.contexts bytes netlist) → Ran words old new status) [
-      | None ↦ λ refuses.
-          of_refusal words (Slow slow) old new NotBuilt (fault_line NothingBuilt) status refl (λ row. row) is
-          (subst (λ r. AnswersSlow slow old.store.files r) refuses asked) (subst (λ r. CarriesOut r old new status) refuses carried)
-      | Some netlist ↦ λ does. of_done words (Slow slow) old new reply status (ap (λ (r : Reply). r.status) does.0) is asked carried
-    ] answers
+    reply ≡ refusal (status_of reason) (line_of slow.input reason) → CarriesOut reply old new status → Ran words old new status
+of_reason words slow old new reason reply status says asked is carried =
+    let r = row_of words old new reason in
+    of_refusal words (Slow slow) old new (status_of reason) (line_of slow.input reason) status r.stays r.row says
+    (subst (λ x. AnswersSlow slow old.store.files x) is asked) (subst (λ x. CarriesOut x old new status) is carried)
 
 of_slow : (words : List (List ℕ)) (slow : SlowWords) (old new : World) (reply : Reply) (status : Status) →
     command_of words ≡ Some (Slow slow) → AnswersSlow slow old.store.files reply → CarriesOut reply old new status → Ran words old new status
-of_slow words slow old new reply status is (inl (long, refuses)) carried =
-    let long_one : AnswersSlow slow old.store.files (refusal NotBuilt (fault_line NothingBuilt)) = inl (long, refl) in
-    of_refusal words (Slow slow) old new NotBuilt (fault_line NothingBuilt) status refl (λ row. row) is long_one
-    (subst (λ r. CarriesOut r old new status) refuses carried)
-of_slow words slow old new reply status is (inr (bytes, has, fits, answers)) carried =
-    of_bytes words slow old new bytes reply status is (inr (bytes, has, fits, answers)) answers carried
+of_slow words slow old new reply status says (inl (long, is)) carried =
+    of_reason words slow old new too_long reply status says (inl (long, is)) is carried
+of_slow words slow old new reply status says (inr (bytes, has, fits, inl writes)) carried =
+    of_done words (Slow slow) old new reply status (ap (λ (r : Reply). r.status) writes.is) says (inr (bytes, has, fits, inl writes)) carried
+of_slow words slow old new reply status says (inr (bytes, has, fits, inr refuses)) carried =
+    of_reason words slow old new refuses.reason reply status says (inr (bytes, has, fits, inr refuses)) refuses.is carried
 
 -- a reply to files that were read
 of_files : (words : List (List ℕ)) (command : Command) (old new : World) (reply : Reply) (status : Status) →

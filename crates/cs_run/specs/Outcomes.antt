@@ -10,7 +10,7 @@ use Rattle.cs_words.specs.declared.command.Command.{Command}
 use Rattle.cs_words.specs.declared.command.Command.TheVariants.{Slow}
 use Rattle.cs_words.specs.Commands.{command_of}
 use Rattle.cs_run.specs.declared.status.Status.{Status}
-use Rattle.cs_run.specs.declared.status.Status.TheVariants.{Done, NoMemory, Usage, ReadFault, WriteFault, NotBuilt}
+use Rattle.cs_run.specs.declared.status.Status.TheVariants.{Done, NoMemory, Usage, ReadFault, WriteFault, DocumentFault, NetlistFault, Limit, NotBuilt}
 use Rattle.cs_run.specs.declared.reply.NewFile.{NewFile}
 use Rattle.cs_run.specs.declared.reply.Reply.{Reply}
 use Rattle.cs_run.specs.declared.inputs.Stop.{Stop}
@@ -124,6 +124,9 @@ status_unput NoMemory = NoMemory
 status_unput Usage = Usage
 status_unput ReadFault = ReadFault
 status_unput WriteFault = WriteFault
+status_unput DocumentFault = DocumentFault
+status_unput NetlistFault = NetlistFault
+status_unput Limit = Limit
 status_unput NotBuilt = NotBuilt
 
 -- the text was put, or the sink failed after a prefix of it
@@ -197,4 +200,7 @@ Ran words old new NoMemory = RanOutOfMemory old new
 Ran words old new Usage = RefusedWords words old new
 Ran words old new ReadFault = CouldNotRead words old new
 Ran words old new WriteFault = CouldNotWrite words old new
+Ran words old new DocumentFault = Finished words old new DocumentFault
+Ran words old new NetlistFault = Finished words old new NetlistFault
+Ran words old new Limit = Finished words old new Limit
 Ran words old new NotBuilt = Finished words old new NotBuilt

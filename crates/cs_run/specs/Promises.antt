@@ -1,18 +1,16 @@
 -- The promises of a run, in plain facts over its words, its files and its sink.
-use Rattle.std.specs.Prelude.{ℕ, ◌<◌, ◌≤◌, ◌≡◌, ◌⊎◌, List, length, Option, Some, None, Contains}
+use Rattle.std.specs.Prelude.{ℕ, ◌≡◌, List, Option, Some, Contains}
 use Rattle.std.specs.Option.{option_map}
 use Rattle.std.specs.FinMap as map
 use Rattle.cs_io.specs.Faults.{Rose}
 use Rattle.cs_io.specs.Stores.{Files, FileHas, with_file, FailsToWrite}
-use Rattle.cs_report.specs.declared.fault.Fault.TheVariants.{NotBuilt}
-use Rattle.cs_report.specs.FaultLines.{fault_line}
 use Rattle.cs_words.specs.declared.command.Command.TheVariants.{Slow}
 use Rattle.cs_words.specs.declared.command.SlowWords.{SlowWords}
 use Rattle.cs_words.specs.Commands.{command_of}
 use Rattle.cs_run.specs.Bytes.{BytesIsolate}
-use Rattle.cs_run.specs.Inputs.{most_bytes}
 use Rattle.cs_run.specs.Outcomes.{World, PutsSome}
-use Rattle.cs_run.specs.Slow.{written}
+use Rattle.cs_run.specs.Slow.{HasReason, IsBuilt, Reason, line_of, status_of}
+use Rattle.cs_run.specs.declared.status.Status.{Status}
 
 -- what the store tells of a file: whether it is there, and its bytes
 abbrev pub file_in : Option Files → List ℕ → Option (Option (List ℕ))
@@ -26,15 +24,6 @@ OthersStay names old new = (name : List ℕ) → (Contains names name → ⊥) �
 pub record HasInput (words : List (List ℕ)) (files : Option Files) (slow : SlowWords) (bytes : List ℕ) : Type 0 where
   pub says : command_of words ≡ Some (Slow slow)
   pub input : file_in files slow.input ≡ Some (Some bytes)
-
--- no netlist is written for these bytes: there are too many, or they have no form that is built
-abbrev pub IsNotBuilt : ℕ → List ℕ → Type 0
-IsNotBuilt contexts bytes = (most_bytes < length bytes) ⊎ (written contexts bytes ≡ None)
-
--- this netlist is written for these bytes
-pub record IsBuilt (contexts : ℕ) (bytes netlist : List ℕ) : Type 0 where
-  pub fits : length bytes ≤ most_bytes
-  pub is : written contexts bytes ≡ Some netlist
 
 -- `slow` read IN, and goes on to write this netlist
 pub record Builds (words : List (List ℕ)) (files : Option Files) (slow : SlowWords) (netlist : List ℕ) : Type 0 where
@@ -60,13 +49,15 @@ pub record CouldNotWriteOut (words : List (List ℕ)) (old new : World) : Type 0
   pub store : FailsToWrite old.store new.store slow.output netlist
   pub sink : new.sink ≡ old.sink
 
--- status 99: IN was read or is too long, and no netlist is written for it; the line says so
-pub record RefusedInput (words : List (List ℕ)) (old new : World) : Type 0 where
+-- IN is refused with this status: for a reason that its bytes have, whose line is put; the store stays
+pub record RefusedInput (words : List (List ℕ)) (old new : World) (status : Status) : Type 0 where
   pub slow : SlowWords
+  pub reason : Reason
   pub says : command_of words ≡ Some (Slow slow)
-  pub input : FileHas old.store.files slow.input (IsNotBuilt slow.contexts)
+  pub input : FileHas old.store.files slow.input (λ bytes. HasReason bytes reason)
+  pub to : status_of reason ≡ status
   pub store : new.store ≡ old.store
-  pub sink : PutsSome old.sink new.sink (fault_line NotBuilt)
+  pub sink : PutsSome old.sink new.sink (line_of slow.input reason)
 
 -- no read, write or put failed
 pub record HasNoFault (old new : World) : Type 0 where

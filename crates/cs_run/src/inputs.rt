@@ -49,7 +49,8 @@ pub fn read_input<S: Store>(alloc: Global, name: &Text, store: &mut S) -> Result
             Err(Stop::Answered(reply))
         }
         Err(StoreError::TooLong { .. }) => {
-            let reply = refuse(alloc, Status::NotBuilt, &Fault::NotBuilt)?;
+            let fault = Fault::FileTooLong(name.copy(alloc)?);
+            let reply = refuse(alloc, Status::Limit, &fault)?;
             Err(Stop::Answered(reply))
         }
         Err(StoreError::NoMemory) => Err(Stop::OutOfMemory),

@@ -16,4 +16,6 @@ pub use slow::answer_slow;
 pub use status::Status;
 
 #[cfg(test)]
+mod refusal_tests;
+#[cfg(test)]
 mod tests;

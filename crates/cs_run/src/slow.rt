@@ -1,20 +1,20 @@
 // The command `slow`.
-ghost use Rattle.std.specs.Prelude.{◌≡◌, IfOk, IfSome, MatchOption, option_map, None};
+ghost use Rattle.std.specs.Prelude.{◌≡◌, ◌≤◌, IfOk, None, length};
 ghost use Rattle.cs_json.specs.Readable.{IsReadable};
-ghost use Rattle.cs_json.specs.Shape.{document, Says};
-ghost use Rattle.cs_run.specs.Bytes.{BytesIsolate, IsNetOf};
-ghost use Rattle.cs_run.specs.Slow.{AnswersBytes, form_of, written};
+ghost use Rattle.cs_net.specs.Accept.{Refuses};
+ghost use Rattle.cs_run.specs.Inputs.{most_bytes};
 ghost use Rattle.cs_run.specs.Outcomes.{HasOutcome};
+ghost use Rattle.cs_run.specs.Slow.{AnswersBytes, IsNetlistOf, SaysDocument, done, refused, status_of};
 ghost use Rattle.cs_words.specs.declared.command.Command.TheVariants.{Slow};
 
 use crate::inputs::{Stop, read_input, refuse};
 use crate::reply::{NewFile, Reply};
 use crate::status::Status;
-use cs_base::{Contexts, Sequence};
+use cs_base::Sequence;
 use cs_io::Store;
 use cs_json::{DocError, Document, print_document, read_document};
-use cs_multiply::multiply;
-use cs_net::{Netlist, first_form};
+use cs_multiply::{MultiplyError, multiply};
+use cs_net::{NetError, Netlist, accept};
 use cs_report::Fault;
 use cs_words::SlowWords;
 use std::alloc::{AllocError, Global};
@@ -28,15 +28,96 @@ pub fn answer_slow<S: Store>(alloc: Global, words: &SlowWords, store: &mut S) ->
 }
 
 fn answer_bytes(alloc: Global, words: &SlowWords, bytes: &[u8]) -> Result<Reply, AllocError>
+    requires { length bytes.now ≤ most_bytes }
     ensures { IfOk result (AnswersBytes words.now bytes.now) }
 {
-    let Some(netlist) = write_netlist(alloc, words.contexts, bytes)? else {
-        return refuse(alloc, Status::NotBuilt, &Fault::NotBuilt);
-    };
+    match read_document(alloc, bytes) {
+        Ok(doc) => answer_document(alloc, words, bytes, &doc),
+        Err(DocError::NotJson) => { refuse(alloc, Status::DocumentFault, &Fault::DocumentNotJson) }
+        Err(DocError::BadShape { at }) => {
+            refuse(alloc, Status::DocumentFault, &Fault::DocumentShape(at))
+        }
+        Err(DocError::NoMemory) => Err(AllocError),
+    }
+}
+
+// Answers bytes that say a document.
+fn answer_document(
+    alloc: Global,
+    words: &SlowWords,
+    bytes: &[u8],
+    doc: &Document,
+) -> Result<Reply, AllocError>
+    requires says { SaysDocument bytes.now doc.now }
+    requires readable { IsReadable doc.now }
+    ensures { IfOk result (AnswersBytes words.now bytes.now) }
+{
+    match accept(alloc, doc, None) {
+        Ok(net) => answer_netlist(alloc, words, bytes, &net),
+        Err(NetError::NoMemory) => Err(AllocError),
+        Err(error) => refuse_document(alloc, words, bytes, doc, error),
+    }
+}
+
+fn refused_status(error: &NetError) -> Status
+    ensures { result ≡ status_of (refused error.now) }
+{
+    match error {
+        NetError::Limit(_) => Status::Limit,
+        _ => Status::NetlistFault,
+    }
+}
+
+fn refuse_document(
+    alloc: Global,
+    words: &SlowWords,
+    bytes: &[u8],
+    doc: &Document,
+    error: NetError,
+) -> Result<Reply, AllocError>
+    requires says { SaysDocument bytes.now doc.now }
+    requires refused { Refuses doc.now None error }
+    ensures { IfOk result (AnswersBytes words.now bytes.now) }
+{
+    let _ = words;
+    let _ = bytes;
+    let _ = doc;
+    let status = refused_status(&error);
+    refuse(alloc, status, &Fault::Refused(error))
+}
+
+// Answers bytes that say a netlist.
+fn answer_netlist(
+    alloc: Global,
+    words: &SlowWords,
+    bytes: &[u8],
+    net: &Netlist,
+) -> Result<Reply, AllocError>
+    requires { IsNetlistOf bytes.now net.now }
+    ensures { IfOk result (AnswersBytes words.now bytes.now) }
+{
+    let _ = bytes;
+    match multiply(alloc, net, words.contexts) {
+        Ok(document) => {
+            let text = print_document(alloc, &document)?;
+            written(alloc, words, Sequence::from_vec(text))
+        }
+        Err(MultiplyError::Cell { name }) => {
+            refuse(alloc, Status::NotBuilt, &Fault::NotBuiltCell(name))
+        }
+        Err(MultiplyError::PortBits) => refuse(alloc, Status::NotBuilt, &Fault::NotBuilt),
+        Err(MultiplyError::NoMemory) => Err(AllocError),
+    }
+}
+
+// OUT is written with these bytes, and nothing is put.
+fn written(alloc: Global, words: &SlowWords, bytes: Sequence<u8>) -> Result<Reply, AllocError>
+    ensures { IfOk result (λ reply. reply ≡ done words.now bytes) }
+{
     let mut writes = Sequence::new(alloc);
     writes.push(NewFile {
         name: words.output.copy(alloc)?,
-        bytes: Sequence::from_vec(netlist),
+        bytes,
         fault_line: Sequence::new(alloc),
     })?;
     Ok(Reply {
@@ -44,48 +125,4 @@ fn answer_bytes(alloc: Global, words: &SlowWords, bytes: &[u8]) -> Result<Reply,
         writes,
         text: Sequence::new(alloc),
     })
-}
-
-// The bytes of OUT for the bytes of IN, and None where they have no form that is built.
-#[tactic(auto, unfolding(crate::specs::Slow::written))]
-fn write_netlist(
-    alloc: Global,
-    contexts: Contexts,
-    bytes: &[u8],
-) -> Result<Option<Vec<u8>>, AllocError>
-    ensures bytes { IfOk result (λ netlist. option_map (λ v. v.items) netlist ≡ written contexts bytes.now) }
-    ensures isolates { IfOk result (λ netlist. IfSome netlist (λ v. BytesIsolate contexts bytes.now v.items)) }
-{
-    let Some(netlist) = netlist_of(alloc, bytes)? else {
-        return Ok(None);
-    };
-    let Some(document) = multiply(alloc, &netlist, contexts)? else {
-        return Ok(None);
-    };
-    Ok(Some(print_document(alloc, &document)?))
-}
-
-// The netlist that bytes say, and None where they have no form that is built.
-fn netlist_of(alloc: Global, bytes: &[u8]) -> Result<Option<Netlist>, AllocError>
-    ensures form { IfOk result (λ found. found ≡ form_of (document bytes.now)) }
-    ensures is { IfOk result (λ found. IfSome found (IsNetOf bytes.now)) }
-{
-    match document_of(alloc, bytes)? {
-        Some(doc) => first_form(alloc, &doc),
-        None => Ok(None),
-    }
-}
-
-// The document that bytes say, and None where they say none.
-fn document_of(alloc: Global, bytes: &[u8]) -> Result<Option<Document>, AllocError>
-    ensures { IfOk result (λ said. MatchOption said
-        (form_of (document bytes.now) ≡ None)
-        (λ doc. (document bytes.now ≡ Says doc) × IsReadable doc)) }
-{
-    match read_document(alloc, bytes) {
-        Ok(doc) => Ok(Some(doc)),
-        Err(DocError::NotJson) => Ok(None),
-        Err(DocError::BadShape { .. }) => Ok(None),
-        Err(DocError::NoMemory) => Err(AllocError),
-    }
 }

@@ -9,6 +9,9 @@ pub enum Status {
     Usage = 2,
     ReadFault = 3,
     WriteFault = 4,
+    DocumentFault = 5,
+    NetlistFault = 6,
+    Limit = 8,
     NotBuilt = 99,
 }
 

@@ -118,6 +118,15 @@ fn size(alloc: Global, cell: &CellDecl, name: &str) -> Result<Option<u32>, Alloc
     }
 }
 
+/// The number that a size of a memory spells.
+pub(crate) fn number_at(alloc: Global, cell: &CellDecl, name: &str) -> Result<u32, AllocError>
+    requires { is_size cell.now name.now ≡ true }
+    ensures { IfOk result (λ number. number ≡ number_at cell.now name.now) }
+{
+    let number = size(alloc, cell, name)?;
+    Ok(number.unwrap_or(0))
+}
+
 // What gives a memory its pins: its numbers of read ports, write ports and address bits, and the width of a word.
 #[derive(Clone, Copy, Drop)]
 struct Sizes {

@@ -1,19 +1,23 @@
 use Rattle.std.proofs.Common.{◌≡◌, ℕ, List, [], ◌∷◌, Contains, ◌⊎◌, inl, inr, refl, sym, ap, subst, ◌∙◌, arith}
 use Rattle.cs_words.specs.Commands.{texts}
 use Rattle.cs_run.specs.declared.status.Status.{Status}
-use Rattle.cs_run.specs.declared.status.Status.TheVariants.{Done, NoMemory, Usage, ReadFault, WriteFault, NotBuilt}
+use Rattle.cs_run.specs.declared.status.Status.TheVariants.{Done, NoMemory, Usage, ReadFault, WriteFault, DocumentFault, NetlistFault, Limit, NotBuilt}
+use Rattle.cs_run.specs.Slow.{status_of}
 use Rattle.cs_run.specs.Statuses.{code_of}
 use Rattle.cs_run.specs.Outcomes.{World, world, Ran}
-use Rattle.cs_run.proofs.PromiseLemmas.{same_status, at_done, at_write_fault, at_not_built, not_built, complete, usage, output, isolates, others}
+use Rattle.cs_run.proofs.PromiseLemmas.{same_status, at_document_fault, at_done, at_limit, at_netlist_fault, at_not_built, at_write_fault, refused_comes, complete, usage, output, isolates, others}
 use Rattle.cs_run.proofs.program.run.Goals as goal
 
-is_listed : (s : Status) → Contains (0 ∷ 1 ∷ 2 ∷ 3 ∷ 4 ∷ 99 ∷ []) (code_of s)
+is_listed : (s : Status) → Contains (0 ∷ 1 ∷ 2 ∷ 3 ∷ 4 ∷ 5 ∷ 6 ∷ 8 ∷ 99 ∷ []) (code_of s)
 is_listed Done = (0, omega arith, refl)
 is_listed NoMemory = (1, omega arith, refl)
 is_listed Usage = (2, omega arith, refl)
 is_listed ReadFault = (3, omega arith, refl)
 is_listed WriteFault = (4, omega arith, refl)
-is_listed NotBuilt = (5, omega arith, refl)
+is_listed DocumentFault = (5, omega arith, refl)
+is_listed NetlistFault = (6, omega arith, refl)
+is_listed Limit = (7, omega arith, refl)
+is_listed NotBuilt = (8, omega arith, refl)
 
 -- the row of the status that the run's number is that of
 row : (words : List (List ℕ)) (old new : World) (s t : Status) (result : ℕ) →
@@ -29,7 +33,7 @@ one_of_three s t u v result is (inl same) = inl (is ∙ ap code_of same)
 one_of_three s t u v result is (inr others) = inr (one_of s u v result is others)
 
 pub returns-clause-statuses : goal.returns-clause-statuses
-returns-clause-statuses g c = subst (λ n. Contains (0 ∷ 1 ∷ 2 ∷ 3 ∷ 4 ∷ 99 ∷ []) n) (sym c.code.ensures) (is_listed c.perform-status.result)
+returns-clause-statuses g c = subst (λ n. Contains (0 ∷ 1 ∷ 2 ∷ 3 ∷ 4 ∷ 5 ∷ 6 ∷ 8 ∷ 99 ∷ []) n) (sym c.code.ensures) (is_listed c.perform-status.result)
 
 pub returns-clause-done : goal.returns-clause-done
 returns-clause-done g c = λ asked.
@@ -58,21 +62,40 @@ returns-clause-write_fault g c = λ asked.
     (row (texts c.args.words.now) (world (g.S.Store.state c.args.store.now) (g.O.Sink.state c.args.out.now))
     (world (g.S.Store.state c.perform-status.new.store) (g.O.Sink.state c.perform-status.new.out)) c.perform-status.result WriteFault c.code.result c.code.ensures c.perform-status.ensures asked)
 
-pub returns-clause-not_built_only : goal.returns-clause-not_built_only
-returns-clause-not_built_only g c = λ asked.
+pub returns-clause-document_fault : goal.returns-clause-document_fault
+returns-clause-document_fault g c = λ asked.
+    at_document_fault (texts c.args.words.now) (world (g.S.Store.state c.args.store.now) (g.O.Sink.state c.args.out.now)) (world (g.S.Store.state c.perform-status.new.store) (g.O.Sink.state c.perform-status.new.out))
+    (row (texts c.args.words.now) (world (g.S.Store.state c.args.store.now) (g.O.Sink.state c.args.out.now)) (world (g.S.Store.state c.perform-status.new.store) (g.O.Sink.state c.perform-status.new.out))
+    c.perform-status.result DocumentFault c.code.result c.code.ensures c.perform-status.ensures asked)
+
+pub returns-clause-netlist_fault : goal.returns-clause-netlist_fault
+returns-clause-netlist_fault g c = λ asked.
+    at_netlist_fault (texts c.args.words.now) (world (g.S.Store.state c.args.store.now) (g.O.Sink.state c.args.out.now)) (world (g.S.Store.state c.perform-status.new.store) (g.O.Sink.state c.perform-status.new.out))
+    (row (texts c.args.words.now) (world (g.S.Store.state c.args.store.now) (g.O.Sink.state c.args.out.now)) (world (g.S.Store.state c.perform-status.new.store) (g.O.Sink.state c.perform-status.new.out))
+    c.perform-status.result NetlistFault c.code.result c.code.ensures c.perform-status.ensures asked)
+
+pub returns-clause-limit : goal.returns-clause-limit
+returns-clause-limit g c = λ asked.
+    at_limit (texts c.args.words.now) (world (g.S.Store.state c.args.store.now) (g.O.Sink.state c.args.out.now)) (world (g.S.Store.state c.perform-status.new.store) (g.O.Sink.state c.perform-status.new.out))
+    (row (texts c.args.words.now) (world (g.S.Store.state c.args.store.now) (g.O.Sink.state c.args.out.now)) (world (g.S.Store.state c.perform-status.new.store) (g.O.Sink.state c.perform-status.new.out))
+    c.perform-status.result Limit c.code.result c.code.ensures c.perform-status.ensures asked)
+
+pub returns-clause-not_built : goal.returns-clause-not_built
+returns-clause-not_built g c = λ asked.
     at_not_built (texts c.args.words.now) (world (g.S.Store.state c.args.store.now) (g.O.Sink.state c.args.out.now)) (world (g.S.Store.state c.perform-status.new.store) (g.O.Sink.state c.perform-status.new.out))
-    (row (texts c.args.words.now) (world (g.S.Store.state c.args.store.now) (g.O.Sink.state c.args.out.now))
-    (world (g.S.Store.state c.perform-status.new.store) (g.O.Sink.state c.perform-status.new.out)) c.perform-status.result NotBuilt c.code.result c.code.ensures c.perform-status.ensures asked)
+    (row (texts c.args.words.now) (world (g.S.Store.state c.args.store.now) (g.O.Sink.state c.args.out.now)) (world (g.S.Store.state c.perform-status.new.store) (g.O.Sink.state c.perform-status.new.out))
+    c.perform-status.result NotBuilt c.code.result c.code.ensures c.perform-status.ensures asked)
 
 pub returns-clause-usage : goal.returns-clause-usage
 returns-clause-usage g c = λ none.
     one_of c.perform-status.result Usage NoMemory c.code.result c.code.ensures
     (usage (texts c.args.words.now) (world (g.S.Store.state c.args.store.now) (g.O.Sink.state c.args.out.now)) (world (g.S.Store.state c.perform-status.new.store) (g.O.Sink.state c.perform-status.new.out)) c.perform-status.result c.perform-status.ensures none)
 
-pub returns-clause-not_built : goal.returns-clause-not_built
-returns-clause-not_built g c = λ slow bytes input not.
-    one_of_three c.perform-status.result NotBuilt NoMemory ReadFault c.code.result c.code.ensures
-    (not_built (texts c.args.words.now) (world (g.S.Store.state c.args.store.now) (g.O.Sink.state c.args.out.now)) (world (g.S.Store.state c.perform-status.new.store) (g.O.Sink.state c.perform-status.new.out)) c.perform-status.result c.perform-status.ensures slow bytes input not)
+pub returns-clause-refused : goal.returns-clause-refused
+returns-clause-refused g c = λ slow bytes reason input has.
+    one_of_three c.perform-status.result (status_of reason) NoMemory ReadFault c.code.result c.code.ensures
+    (refused_comes (texts c.args.words.now) (world (g.S.Store.state c.args.store.now) (g.O.Sink.state c.args.out.now)) (world (g.S.Store.state c.perform-status.new.store) (g.O.Sink.state c.perform-status.new.out))
+    c.perform-status.result c.perform-status.ensures slow bytes reason input has)
 
 pub returns-clause-complete : goal.returns-clause-complete
 returns-clause-complete g c = λ slow bytes netlist input built no_fault.
@@ -84,10 +107,10 @@ returns-clause-others g c =
     others (texts c.args.words.now) (world (g.S.Store.state c.args.store.now) (g.O.Sink.state c.args.out.now)) (world (g.S.Store.state c.perform-status.new.store) (g.O.Sink.state c.perform-status.new.out)) c.perform-status.result c.perform-status.ensures
 
 pub returns-clause-output : goal.returns-clause-output
-returns-clause-output g c = λ asked slow bytes input.
+returns-clause-output g c = λ asked slow bytes netlist input built.
     output (texts c.args.words.now) (world (g.S.Store.state c.args.store.now) (g.O.Sink.state c.args.out.now)) (world (g.S.Store.state c.perform-status.new.store) (g.O.Sink.state c.perform-status.new.out))
     (row (texts c.args.words.now) (world (g.S.Store.state c.args.store.now) (g.O.Sink.state c.args.out.now))
-    (world (g.S.Store.state c.perform-status.new.store) (g.O.Sink.state c.perform-status.new.out)) c.perform-status.result Done c.code.result c.code.ensures c.perform-status.ensures asked) slow bytes input
+    (world (g.S.Store.state c.perform-status.new.store) (g.O.Sink.state c.perform-status.new.out)) c.perform-status.result Done c.code.result c.code.ensures c.perform-status.ensures asked) slow bytes netlist input built
 
 pub returns-clause-isolates : goal.returns-clause-isolates
 returns-clause-isolates g c = λ asked slow bytes netlist input holds.
