@@ -17,7 +17,7 @@ use Rattle.cs_net.proofs.Members.{of_all, within_has}
 
 -- ---- bytes
 
-below_differs : (a b : List ℕ) → IsTrue (is_below a b) → bytes_eq a b ≡ false
+pub below_differs : (a b : List ℕ) → IsTrue (is_below a b) → bytes_eq a b ≡ false
 below_differs a b h = sym (is_eq-slice_cmp a b) ∙ less (slice_cmp nat_cmp a b) h
   where
     less : (o : Ordering) → IsTrue (is_lt o) → is_eq o ≡ false
@@ -25,7 +25,7 @@ below_differs a b h = sym (is_eq-slice_cmp a b) ∙ less (slice_cmp nat_cmp a b)
     less Equal is = cc
     less Greater is = refl
 
-same_itself : (a : List ℕ) → bytes_eq a a ≡ true
+pub same_itself : (a : List ℕ) → bytes_eq a a ≡ true
 same_itself a = (bytes_eq-Decides a a).1 refl
 
 pub bytes_eq_flips : (a b : List ℕ) → bytes_eq a b ≡ bytes_eq b a

@@ -34,3 +34,4 @@ pub mod LoopLemmas
 pub mod LoopNames
 pub mod ShortcutLemmas
 pub mod DraftLemmas
+pub mod MemoryPlaces

@@ -1,5 +1,5 @@
 -- The netlist of a module.
-use Rattle.std.specs.Prelude.{◌≡◌, ℕ, ◌+◌, ◌*◌, List, [], map, Bool, Option, Some, None, filter_map, flat_map, option_map, codes}
+use Rattle.std.specs.Prelude.{◌≡◌, ℕ, ◌+◌, ◌*◌, List, [], ◌∷◌, map, Bool, Option, Some, None, filter_map, flat_map, option_map, codes}
 use Rattle.cs_json.specs.declared.document.Module.{Module}
 use Rattle.cs_json.specs.declared.document.PortDecl.{PortDecl}
 use Rattle.cs_json.specs.declared.document.CellDecl.{CellDecl}
@@ -90,6 +90,12 @@ starts_by _ m cell = []
 abbrev pub words_by : Class → CellDecl → Option MemoryWords
 words_by class.Memory cell = Some (record { name = cell.name; words = first_words cell (memory_shape cell) })
 words_by _ cell = None
+
+-- how many memories stand before each cell, k of them before the first
+abbrev pub places_from : ℕ → List (Option MemShape) → List ℕ
+places_from k [] = []
+places_from k (None ∷ shapes) = k ∷ places_from k shapes
+places_from k (Some shape ∷ shapes) = k ∷ places_from (k + 1) shapes
 
 -- the netlist of a module, where no condition holds
 unfoldable pub net_of : Module → Net

@@ -1,8 +1,11 @@
 -- What each netlist keeps.
-use Rattle.std.specs.Prelude.{◌≡◌, ℕ, None}
+use Rattle.std.specs.Prelude.{◌≡◌, ◌<◌, ℕ, List, Some, None, get_or, option_map, slice_get}
+use Rattle.cs_cells.specs.declared.memory.MemShape.{MemShape}
+use Rattle.cs_cells.specs.Memories.{word_count}
+use Rattle.cs_net.specs.declared.netlist.Cell.{Cell}
 use Rattle.cs_json.specs.declared.document.Module.{Module}
 use Rattle.cs_json.specs.Readable.{IsModule}
-use Rattle.cs_net.specs.Netlist.{Net}
+use Rattle.cs_net.specs.Netlist.{Net, words_at}
 use Rattle.cs_net.specs.Drivers.{IsOrder}
 use Rattle.cs_net.specs.Conditions.{early_refusal, reserved}
 use Rattle.cs_net.specs.Build.{net_of}
@@ -28,3 +31,15 @@ pub record IsWellFormed (net : Net) : Type 0 where
   pub is : net ≡ net_of «module»
   pub order : HasOrder net
   pub within : limit_fault net ≡ None
+
+-- for each cell that is a memory, the place of its words among the memories
+abbrev pub AreMemoryPlaces : Net → List ℕ → Type 0
+AreMemoryPlaces net places = (i : ℕ) (cell : Cell) (shape : MemShape) → slice_get net.cells i ≡ Some cell → slice_get net.shapes i ≡ Some (Some shape) →
+    option_map (λ m. m.words) (slice_get net.memories (get_or places i 0)) ≡ Some (words_at net.memories cell.name)
+
+-- cell i is a memory, with such a word and such a bit in each
+pub record IsMemoryBit (net : Net) (i word bit : ℕ) : Type 0 where
+  pub shape : MemShape
+  pub memory : slice_get net.shapes i ≡ Some (Some shape)
+  pub is_word : word < word_count shape
+  pub is_bit : bit < shape.width

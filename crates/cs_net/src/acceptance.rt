@@ -8,14 +8,14 @@ ghost use Rattle.cs_net.specs.Invariant.{HasOrder, IsSound};
 ghost use Rattle.cs_net.specs.declared.error.NetError.{NetError};
 ghost use Rattle.cs_net.specs.declared.error.NetError.TheVariants.{NoMemory};
 
-use crate::build::{cells, ports};
+use crate::build::{cells, output_count, ports};
 use crate::conditions::{reserved, top_module};
-use crate::elements::{arrange_elements, elements};
+use crate::elements::{arrange_elements, elements, input_count};
 use crate::error::NetError;
 use crate::initial_values::{initial_values, value_map};
 use crate::limits::limit_fault;
 use crate::loops::loop_names;
-use crate::memories::{memories, shapes};
+use crate::memories::{memories, memory_places, shapes};
 use crate::netlist::{Cell, Clock, Netlist, Port};
 use crate::refusal::{clock_of, early_refusal};
 use cs_base::{Sequence, Text};
@@ -95,6 +95,9 @@ fn netlist_of(alloc: Global, top: &Module, draft: Draft) -> Result<Netlist, Allo
     ensures { IfOk result (λ net. net ≡ net_of top.now) }
 {
     let memories = memories(alloc, top)?;
+    let memory_places = memory_places(alloc, draft.shapes.as_slice())?;
+    let input_count = input_count(alloc, draft.ports.as_slice(), draft.clock)?;
+    let output_count = output_count(alloc, draft.ports.as_slice())?;
     let starts = initial_values(alloc, top)?;
     let start_values = value_map(alloc, starts.as_slice())?;
     Ok(Netlist {
@@ -106,6 +109,9 @@ fn netlist_of(alloc: Global, top: &Module, draft: Draft) -> Result<Netlist, Allo
         starts,
         memories,
         start_values,
+        memory_places,
+        input_count,
+        output_count,
     })
 }
 

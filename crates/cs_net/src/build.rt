@@ -1,9 +1,10 @@
 // The ports and the cells of a netlist.
-ghost use Rattle.std.specs.Prelude.{◌≡◌, IfOk, map};
+ghost use Rattle.std.specs.Prelude.{◌≡◌, IfOk, filter, flat_map, length, map};
 ghost use Rattle.cs_net.specs.Build.{cell_of, pin_of, port_of};
 ghost use Rattle.cs_net.specs.Conditions.{cells_in};
+ghost use Rattle.cs_net.specs.Drivers.{is_output};
 
-use crate::conditions::{class_at, is_scope};
+use crate::conditions::{class_at, is_output, is_scope};
 use crate::netlist::{Cell, PinBits, Port};
 use cs_base::{Sequence, Signal};
 use cs_json::{CellDecl, PinDecl, PortDecl};
@@ -76,4 +77,27 @@ pub(crate) fn cells(alloc: Global, cells: &[CellDecl]) -> Result<Sequence<Cell>,
         }
     }
     Ok(made)
+}
+
+// The bits of the output ports, port by port.
+fn output_bits(alloc: Global, ports: &[Port]) -> Result<Vec<Signal>, AllocError>
+    ensures { IfOk result (λ bits. bits.items
+        ≡ flat_map (λ p. p.bits) (filter (λ p. is_output p.direction) ports.now)) }
+{
+    let mut bits = Vec::new(alloc);
+    for port in ports {
+        if is_output(port.direction) {
+            bits.extend_from_slice(port.bits.as_slice())?;
+        }
+    }
+    Ok(bits)
+}
+
+/// The number of data output bits.
+pub(crate) fn output_count(alloc: Global, ports: &[Port]) -> Result<usize, AllocError>
+    ensures { IfOk result (λ count. count
+        ≡ length (flat_map (λ p. p.bits) (filter (λ p. is_output p.direction) ports.now))) }
+{
+    let outputs = output_bits(alloc, ports)?;
+    Ok(outputs.len())
 }

@@ -87,6 +87,19 @@ fn data_inputs(
         .collect(alloc)
 }
 
+/// The number of data input bits.
+pub(crate) fn input_count(
+    alloc: Global,
+    ports: &[Port],
+    clock: Option<Clock>,
+) -> Result<usize, AllocError>
+    ensures { IfOk result (λ count. count ≡ length (filter (λ s. not (is_clock clock s))
+        (flat_map (λ p. p.bits) (filter (λ p. is_input p.direction) ports.now)))) }
+{
+    let inputs = data_inputs(alloc, ports, clock)?;
+    Ok(inputs.len())
+}
+
 // ---- cells
 
 fn signals(alloc: Global, signals: &[Signal]) -> Result<Sequence<Signal>, AllocError>

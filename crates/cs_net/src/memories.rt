@@ -3,7 +3,7 @@ ghost use Rattle.std.specs.Prelude.{◌≡◌, ◌+◌, ◌*◌, ◌≤◌, [], 
 ghost use Rattle.std.specs.List.{list_all};
 ghost use Rattle.cs_cells.specs.declared.class.Class.TheVariants.{Memory};
 ghost use Rattle.cs_net.specs.Accept.{shapes_in};
-ghost use Rattle.cs_net.specs.Build.{AreReadsOf, digits_part, first_words, memory_shape, read_shape, shape_of, words_by};
+ghost use Rattle.cs_net.specs.Build.{AreReadsOf, digits_part, first_words, memory_shape, places_from, read_shape, shape_of, words_by};
 ghost use Rattle.cs_net.specs.Conditions.{bad_pins, cells_in, cells_of, has_right_pins};
 ghost use Rattle.cs_net.specs.Digits.{is_one};
 ghost use Rattle.cs_net.specs.Pins.{class_at, count_from, is_size, memory_sizes, number_at};
@@ -178,4 +178,22 @@ pub(crate) fn memories(alloc: Global, top: &Module) -> Result<Sequence<MemoryWor
         }
     }
     Ok(memories)
+}
+
+/// How many memories stand before each cell.
+pub(crate) fn memory_places(
+    alloc: Global,
+    shapes: &[Option<MemShape>],
+) -> Result<Sequence<usize>, AllocError>
+    ensures { IfOk result (λ places. places ≡ places_from 0 shapes.now) }
+{
+    let mut places = Sequence::new(alloc);
+    let mut count = 0;
+    for shape in shapes {
+        places.push(count)?;
+        if shape.is_some() {
+            count += 1;
+        }
+    }
+    Ok(places)
 }

@@ -1,9 +1,11 @@
 // An accepted netlist.
-ghost use Rattle.std.specs.Prelude.{◌≡◌, ◌<◌, bytes_eq, find, length, slice_get, Some};
-ghost use Rattle.std.specs.Option.{option_copied};
-ghost use Rattle.cs_net.specs.Drivers.{bits_of, signal_of};
-ghost use Rattle.cs_net.specs.Netlist.{Net, bit_at};
-ghost use Rattle.cs_net.specs.Invariant.{IsWellFormed};
+ghost use Rattle.std.specs.Prelude.{◌≡◌, ◌<◌, [], Some, bytes_eq, false, find, get_or, length, option_map, slice_get};
+ghost use Rattle.cs_cells.specs.declared.memory.MemShape.{MemShape};
+ghost use Rattle.std.specs.Option.{option_and_then, option_copied};
+ghost use Rattle.cs_net.specs.declared.netlist.Cell.{Cell};
+ghost use Rattle.cs_net.specs.Drivers.{bits_of, data_inputs, data_outputs, signal_of};
+ghost use Rattle.cs_net.specs.Netlist.{Net, bit_at, words_at};
+ghost use Rattle.cs_net.specs.Invariant.{IsMemoryBit, IsWellFormed};
 ghost use Rattle.cs_net.specs.Starts.{noted_value};
 
 use crate::state::{BitValue, MemoryWords};
@@ -80,6 +82,10 @@ pub struct Netlist {
     pub(crate) memories: Sequence<MemoryWords>,
     /// The starts by the numbers of their bits.
     pub(crate) start_values: HashMap<u32, bool>,
+    /// For each cell that is a memory, where its words stand among the memories.
+    pub(crate) memory_places: Sequence<usize>,
+    pub(crate) input_count: usize,
+    pub(crate) output_count: usize,
 }
 
 impl Model for Netlist {
@@ -89,14 +95,19 @@ impl Model for Netlist {
 
     ghost view = { λ n. record { name = n.name; ports = n.ports; cells = n.cells; shapes = n.shapes; clock = n.clock; starts = n.starts; memories = n.memories } };
 
-    ghost use Rattle.std.specs.Prelude.{◌≡◌, ℕ};
-    ghost use Rattle.cs_net.specs.Invariant.{IsWellFormed};
+    ghost use Rattle.std.specs.Prelude.{◌≡◌, ℕ, length};
+    ghost use Rattle.cs_net.specs.Drivers.{data_inputs, data_outputs};
+    ghost use Rattle.cs_net.specs.Invariant.{AreMemoryPlaces, IsWellFormed};
     ghost use Rattle.cs_net.specs.Netlist.{bit_at};
     ghost use Rattle.cs_net.specs.Starts.{noted_value};
 
     ghost invariant = { λ n.
-        IsWellFormed (record { name = n.name; ports = n.ports; cells = n.cells; shapes = n.shapes; clock = n.clock; starts = n.starts; memories = n.memories })
-        × ((b : ℕ) → noted_value n.start_values b ≡ bit_at n.starts b) };
+        let net : Net = record { name = n.name; ports = n.ports; cells = n.cells; shapes = n.shapes; clock = n.clock; starts = n.starts; memories = n.memories } in
+        IsWellFormed net
+        × ((b : ℕ) → noted_value n.start_values b ≡ bit_at n.starts b)
+        × AreMemoryPlaces net n.memory_places
+        × (n.input_count ≡ length (data_inputs net))
+        × (n.output_count ≡ length (data_outputs net)) };
 }
 
 impl Netlist {
@@ -164,5 +175,65 @@ impl Netlist {
         ensures { result ≡ bit_at self.now.starts bit }
     {
         self.start_values.get(&bit.get()).copied().unwrap_or(false)
+    }
+
+    /// The number of data input bits: the bits of the input ports without the clock.
+    pub fn input_count(&self) -> usize
+        ensures { result ≡ length (data_inputs self.now) }
+    {
+        self.input_count
+    }
+
+    /// The number of data output bits.
+    pub fn output_count(&self) -> usize
+        ensures { result ≡ length (data_outputs self.now) }
+    {
+        self.output_count
+    }
+
+    /// The shape of cell i, where that is a memory.
+    pub fn memory(&self, i: usize) -> Option<&MemShape>
+        ensures { option_copied result ≡ option_and_then (λ shape. shape) (slice_get self.now.shapes i) }
+    {
+        match self.shapes.as_slice().get(i) {
+            Some(shape) => shape.as_ref(),
+            None => None,
+        }
+    }
+
+    /// A bit of a word of the memory that cell i is, at the start.
+    pub fn memory_bit(&self, i: usize, word: u32, bit: u32) -> bool
+        requires { IsMemoryBit self.now i word bit }
+        ensures { (cell : Cell) → slice_get self.now.cells i ≡ Some cell
+            → result ≡ get_or (get_or (words_at self.now.memories cell.name) word []) bit false }
+    {
+        match self.words_at(i) {
+            Some(memory) => word_bit(memory, word as usize, bit as usize),
+            None => false,
+        }
+    }
+
+    // The words of the memory that cell i is.
+    fn words_at(&self, i: usize) -> Option<&MemoryWords>
+        ensures { (cell : Cell) (shape : MemShape) → slice_get self.now.cells i ≡ Some cell → slice_get self.now.shapes i ≡ Some (Some shape)
+            → option_map (λ m. m.now.words) result ≡ Some (words_at self.now.memories cell.name) }
+    {
+        let place = place_at(self.memory_places.as_slice(), i);
+        self.memories.as_slice().get(place)
+    }
+}
+
+fn place_at(places: &[usize], i: usize) -> usize
+    ensures { result ≡ get_or places.now i 0 }
+{
+    places.get(i).copied().unwrap_or(0)
+}
+
+fn word_bit(memory: &MemoryWords, word: usize, bit: usize) -> bool
+    ensures { result ≡ get_or (get_or memory.now.words word []) bit false }
+{
+    match memory.words.as_slice().get(word) {
+        Some(word) => word.as_slice().get(bit).copied().unwrap_or(false),
+        None => false,
     }
 }

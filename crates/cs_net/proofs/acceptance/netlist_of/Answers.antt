@@ -1,4 +1,9 @@
-use Rattle.std.proofs.Common.{rules, ◌∙◌, ap}
+use Rattle.std.proofs.Common.{rules, ◌∙◌, List, ap, filter, flat_map, length, not, subst, sym}
+use Rattle.cs_net.specs.Drivers.{is_clock, is_input, is_output}
+use Rattle.cs_net.specs.declared.netlist.Port.{Port}
+use Rattle.cs_net.specs.Build.{net_of, places_from}
+use Rattle.cs_net.specs.Invariant.{AreMemoryPlaces}
+use Rattle.cs_net.proofs.MemoryPlaces.{are_memory_places}
 use Rattle.cs_net.specs.Netlist.{bit_at}
 use Rattle.cs_net.proofs.AcceptLemmas.{is_well_formed, narrow_memories, net_by_parts}
 use Rattle.cs_net.proofs.Refusals.{no_bad_pins}
@@ -11,11 +16,19 @@ pub memories-requires-clause-narrow : goal.memories-requires-clause-narrow
 memories-requires-clause-narrow c = narrow_memories c.args.top.now c.requires.sound
 
 pub invariant_of-result : goal.invariant_of-result
-invariant_of-result c = (
-  is_well_formed c.args.top.now c.requires.readable c.requires.early c.requires.sound _
-      (net_by_parts c.args.top.now _ (search rules) (search rules) (search rules) (search rules) (search rules) (search rules) (search rules)),
-  λ b. c.in_ok-start_values.ensures b ∙ ap (λ starts. bit_at starts b) c.as_slice.ensures,
-)
+invariant_of-result c =
+    let m = c.args.top.now in
+    let is = net_by_parts m _ (search rules) (search rules) (search rules) (search rules) (search rules) (search rules) (search rules) in (
+      is_well_formed m c.requires.readable c.requires.early c.requires.sound _ is,
+      (λ b. c.in_ok-start_values.ensures b ∙ ap (λ starts. bit_at starts b) (search rules)),
+      subst (λ n. AreMemoryPlaces n c.in_ok-memory_places.memory_places) (sym is)
+          (subst (AreMemoryPlaces (net_of m)) (sym (c.in_ok-memory_places.ensures ∙ ap (places_from 0) (c.as_slice.ensures ∙ c.requires.draft.shapes)))
+          (are_memory_places m c.requires.readable)),
+      c.in_ok-input_count.ensures
+          ∙ ap (λ (ports : List Port). length (filter (λ s. not (is_clock c.args.draft.clock s)) (flat_map (λ p. p.bits) (filter (λ p. is_input p.direction) ports)))) c.as_slice-2.ensures,
+      c.in_ok-output_count.ensures
+          ∙ ap (λ (ports : List Port). length (flat_map (λ p. p.bits) (filter (λ p. is_output p.direction) ports))) c.as_slice-3.ensures,
+    )
 
 pub returns : goal.returns
 returns c = net_by_parts c.args.top.now _ (search rules) (search rules) (search rules) (search rules) (search rules) (search rules) (search rules)

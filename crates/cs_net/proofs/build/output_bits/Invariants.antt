@@ -1,0 +1,8 @@
+use Rattle.std.proofs.Common.{◌≡◌, ◌++◌, drop, filter, flat_map}
+use Rattle.cs_net.specs.Drivers.{is_output}
+use Rattle.cs_net.proofs.build.output_bits.Given as goal
+
+abbrev pub invariant-loop-port : goal.invariant-loop-port
+invariant-loop-port l =
+    l.bits.items ++ flat_map (λ p. p.bits) (filter (λ p. is_output p.direction) (drop l.port-index l.ports))
+    ≡ flat_map (λ p. p.bits) (filter (λ p. is_output p.direction) l.ports)
