@@ -1,4 +1,4 @@
--- Lags, and the machine that they give.
+-- Lags, and the machine that they give: the retiming of Leiserson and Saxe, with contents.
 use Rattle.std.specs.Prelude.{◌≡◌, ℕ, ℤ, pos, ◌+ℤ◌, ◌-ℤ◌, ◌≤ℤ◌, ◌<◌, List, [], length, get_or, map, slice_get, Some, Bool, IsTrue, unsigned_abs}
 use Rattle.std.specs.List.{enumerate_from}
 use Rattle.cs_base.specs.declared.contexts.Mode.{Mode}
@@ -12,12 +12,15 @@ use Rattle.cs_graph.specs.declared.graph.Graph.{Graph}
 use Rattle.cs_graph.specs.Run.{Row, Outs, IsRun, seen}
 use Rattle.cs_graph.specs.Kinds.{is_pinned}
 
+-- the lag of a vertex, 0 past the end of the list
 abbrev pub lag_at : List ℤ → ℕ → ℤ
 lag_at lags v = get_or lags v (pos 0)
 
+-- w(e) + r(to) - r(from)
 abbrev pub weight_under : List ℤ → Edge → ℤ
 weight_under lags d = pos d.weight +ℤ lag_at lags d.to -ℤ lag_at lags d.from
 
+-- a lag for each vertex, 0 where it may not move, that leaves no weight below 0; forward, none is above 0
 pub record IsLegal (g : Graph) (mode : Mode) (lags : List ℤ) : Type 0 where
   pub count : length lags ≡ length g.vertices
   pub pinned : (v : ℕ) (x : Vertex) → slice_get g.vertices v ≡ Some x → IsTrue (is_pinned x.kind)
@@ -25,9 +28,11 @@ pub record IsLegal (g : Graph) (mode : Mode) (lags : List ℤ) : Type 0 where
   pub weights : (e : ℕ) (d : Edge) → slice_get g.edges e ≡ Some d → pos 0 ≤ℤ (weight_under lags d)
   pub ahead : mode ≡ Forward → (v : ℕ) → (lag_at lags v) ≤ℤ pos 0
 
+-- contents for each edge, nearest the driver first
 abbrev pub Contents : Type 0
 Contents = List (List Bool)
 
+-- an edge with its weight under these lags, and with its contents among these
 abbrev pub retimed_edge : List ℤ → Contents → ℕ × Edge → Edge
 retimed_edge lags k p = record p.1 {
   weight = unsigned_abs (weight_under lags p.1);

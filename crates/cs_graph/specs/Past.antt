@@ -1,4 +1,5 @@
--- Values before clock 0, and contents that continue them.
+-- Values before clock 0, and contents that continue them (after Touati and Brayton, "Computing the initial states of
+-- retimed circuits", 1993: a start of a retimed circuit is found by going back from the old one).
 use Rattle.std.specs.Prelude.{◌≡◌, ℕ, ◌+◌, ◌-◌, ◌*◌, ◌%◌, ℤ, pos, negsuc, ◌-ℤ◌, ◌<◌, ◌≤◌, List, [], length, get_or, map, slice_get, Option, Some, None, Bool, false, if◌then◌else◌, nat_lt, unsigned_abs}
 use Rattle.cs_cells.specs.declared.gate.Kind.{Kind}
 use Rattle.cs_cells.specs.Gates.{gate_value}
@@ -27,10 +28,12 @@ abbrev pub past_carried : List ℤ → Past → ℕ → Edge → ℕ → Bool
 past_carried lags past e d i = if nat_lt i (lead (lag_at lags d.from)) then past.values d.from i else
     past.contents e i
 
+-- what an edge brings at clock -(i + 1), false where there is no edge
 abbrev pub past_edge : List ℤ → Past → ℕ → Option Edge → ℕ → Bool
 past_edge lags past e None i = false
 past_edge lags past e (Some d) i = past_carried lags past e d (i + d.weight)
 
+-- what a pin sees at clock -(i + 1)
 abbrev pub past_seen : Graph → List ℤ → Past → ℕ → Feed → Bool
 past_seen g lags past i (Tied b) = b
 past_seen g lags past i (Along e) = past_edge lags past e (slice_get g.edges e) i
@@ -59,6 +62,7 @@ pub record AreRight (g : Graph) (lags : List ℤ) (past : Past) (k : Contents) :
       → Row) (value : ℕ → Outs) (words : ℕ → ℕ → Words) → RunsOn g row value words
       → get_or (get_or k e []) j false ≡ ever lags past value e d (negsuc j -ℤ lag_at lags d.from)
 
+-- these lags have a past
 pub record HasPast (g : Graph) (lags : List ℤ) : Type 0 where
   pub past : Past
   pub is : IsPast g lags past
@@ -80,6 +84,7 @@ pub record IsPastOf (g : Graph) (lags : List ℤ) (c k : ℕ) (past : Past) : Ty
       → 0 < lead (lag_at lags d.to) → lead (lag_at lags d.from) ≤ i → i < d.weight
       → past.contents e i ≡ get_or d.contents i false
 
+-- these lags have a past at the clocks of context k
 pub record HasPastOf (g : Graph) (lags : List ℤ) (c k : ℕ) : Type 0 where
   pub past : Past
   pub is : IsPastOf g lags c k past

@@ -1,4 +1,5 @@
--- What a machine does, clock by clock.
+-- What a machine does, clock by clock: the graph of Leiserson and Saxe ("Retiming synchronous circuitry", Algorithmica
+-- 6, 1991), with a start for each register, and with memories.
 use Rattle.std.specs.Prelude.{◌≡◌, ℕ, zero, suc, ◌+◌, ◌<◌, ◌≤◌, ◌==◌, nat_lt, ℤ, pos, negsuc, ◌-ℤ◌, List, [], ◌∷◌, length, get_or, map, take, drop, fold, Bool, true, false, ◌&&◌, not, if◌then◌else◌, Option, Some, None, slice_get, flat_map}
 use Rattle.cs_cells.specs.Gates.{gate_value}
 use Rattle.cs_cells.specs.Memories.{Words, Write, number_of, read_bit, after_write}
@@ -12,6 +13,7 @@ use Rattle.cs_graph.specs.declared.memory.Memory.{Memory}
 use Rattle.cs_graph.specs.declared.graph.Graph.{Graph}
 use Rattle.cs_graph.specs.Kinds.{is_input}
 
+-- the bits of one clock
 abbrev pub Row : Type 0
 Row = List Bool
 
@@ -26,10 +28,12 @@ abbrev pub carried : Edge → (ℕ → Outs) → ℤ → Bool
 carried e value (pos n) = value n e.from e.output
 carried e value (negsuc j) = get_or e.contents j false
 
+-- what an edge brings at clock n: what it carried as many clocks before as it has registers
 abbrev pub seen_edge : Option Edge → (ℕ → Outs) → ℕ → Bool
 seen_edge None value n = false
 seen_edge (Some e) value n = carried e value (pos n -ℤ pos e.weight)
 
+-- what a pin sees at clock n: the bit that it is tied to, or what its edge brings
 abbrev pub seen : Graph → (ℕ → Outs) → ℕ → Feed → Bool
 seen g value n (Tied b) = b
 seen g value n (Along e) = seen_edge (slice_get g.edges e) value n
@@ -52,20 +56,24 @@ output_of (Gate kind) i row words pins o = gate_value kind pins
 output_of (Read memory port) i row words pins o = read_bit (words memory) pins o
 output_of (WritePort memory port) i row words pins o = false
 
+-- the same of the vertex of a number, 0 where there is none
 abbrev pub vertex_output : Option Vertex → ℕ → Row → (ℕ → Words) → (Feed → Bool) → ℕ → Bool
 vertex_output None i row words sees o = false
 vertex_output (Some x) i row words sees o = output_of x.kind i row words (map sees x.pins) o
 
+-- the outputs of all vertices, by what their pins see
 abbrev pub value_at : Graph → Row → (ℕ → Words) → (Feed → Bool) → Outs
 value_at g row words sees v o = vertex_output (slice_get g.vertices v) (inputs_before g.vertices v) row
     words sees o
 
 -- ---- memories
 
+-- a list of bits cut into so many words of a width
 abbrev pub words_from : ℕ → ℕ → List Bool → Words
 words_from zero width start = []
 words_from (suc count) width start = take width start ∷ words_from count width (drop width start)
 
+-- the words that a memory starts with
 abbrev pub start_words : Option Memory → Words
 start_words None = []
 start_words (Some m) = words_from m.words m.width m.start
@@ -79,6 +87,7 @@ write_of m pins = record {
       drop m.width (drop m.abits pins);
 }
 
+-- what a vertex gives memory i, where it is one of its write ports
 abbrev pub writes_by : ℕ → Memory → VertexKind → List Bool → List Write
 writes_by i m Host pins = []
 writes_by i m Input pins = []
@@ -97,15 +106,18 @@ abbrev pub taken_in : Bool → Memory → Words → Write → Words
 taken_in bounded m words w = if bounded && not (nat_lt (number_of w.address) m.size) then words else
     after_write words w
 
+-- a memory's words after one clock: its write ports act in order
 abbrev pub memory_after : Bool → Graph → ℕ → Option Memory → (Feed → Bool) → Words → Words
 memory_after bounded g i None sees now = now
 memory_after bounded g i (Some m) sees now = fold (taken_in bounded m) now (writes_at g i m sees)
 
+-- the words of memory i after one clock
 abbrev pub words_after : Bool → Graph → (Feed → Bool) → (ℕ → Words) → ℕ → Words
 words_after bounded g sees now i = memory_after bounded g i (slice_get g.memories i) sees (now i)
 
 -- ---- runs
 
+-- the words of memory i at clock 0
 abbrev pub first_words : Graph → ℕ → Words
 first_words g i = start_words (slice_get g.memories i)
 
@@ -125,12 +137,15 @@ pub record RunsFor (bounded : Bool) (g : Graph) (clocks : ℕ) (row : ℕ → Ro
 abbrev pub RunsOn : Graph → (ℕ → Row) → (ℕ → Outs) → (ℕ → ℕ → Words) → Type 0
 RunsOn g row value words = (n : ℕ) → RunsFor false g n row value words
 
+-- row n of a list, none past its end
 abbrev pub row_of : List Row → ℕ → Row
 row_of rows n = get_or rows n []
 
+-- a run over rows: in each of their clocks every vertex gives its output, and memories go on from their starts
 abbrev pub IsRun : Graph → List Row → (ℕ → Outs) → (ℕ → ℕ → Words) → Type 0
 IsRun g rows value words = RunsFor false g (length rows) (row_of rows) value words
 
+-- a run in which a write from `size` on is dropped
 abbrev pub IsBoundedRun : Graph → List Row → (ℕ → Outs) → (ℕ → ℕ → Words) → Type 0
 IsBoundedRun g rows value words = RunsFor true g (length rows) (row_of rows) value words
 
@@ -139,6 +154,7 @@ pub record AgreeFor (clocks : ℕ) (value value' : ℕ → Outs) (words words' :
   pub same_values : (n : ℕ) → n < clocks → (v o : ℕ) → value n v o ≡ value' n v o
   pub same_words : (n : ℕ) → n ≤ clocks → (i : ℕ) → words n i ≡ words' n i
 
+-- there is a run, and every other agrees with it
 pub record HasOneRun (bounded : Bool) (g : Graph) (clocks : ℕ) (row : ℕ → Row) : Type 0 where
   pub value : ℕ → Outs
   pub words : ℕ → ℕ → Words
@@ -158,6 +174,7 @@ shown_by (Gate kind) pins = []
 shown_by (Read memory port) pins = []
 shown_by (WritePort memory port) pins = []
 
+-- the row of what the Output vertices see, in order
 abbrev pub outputs_at : Graph → (Feed → Bool) → Row
 outputs_at g sees = flat_map (λ x. shown_by x.kind (map sees x.pins)) g.vertices
 

@@ -1,4 +1,4 @@
--- A machine in which every register is several.
+-- A machine in which every register is several: the c-slow circuit of Leiserson and Saxe, with starts.
 use Rattle.std.specs.Prelude.{ℕ, ◌*◌, List, map, replicate, flat_map, Bool}
 use Rattle.cs_graph.specs.declared.edge.Edge.{Edge}
 use Rattle.cs_graph.specs.declared.graph.Graph.{Graph}
@@ -7,8 +7,10 @@ use Rattle.cs_graph.specs.declared.graph.Graph.{Graph}
 abbrev pub repeated : ℕ → List Bool → List Bool
 repeated c contents = flat_map (λ b. replicate c b) contents
 
+-- c times the registers, each content c times
 abbrev pub slow_edge : ℕ → Edge → Edge
 slow_edge c d = record d { weight = d.weight * c; contents = repeated c d.contents }
 
+-- every edge so
 abbrev pub slow : ℕ → Graph → Graph
 slow c g = record g { edges = map (slow_edge c) g.edges }
