@@ -12,6 +12,7 @@ use Rattle.cs_cells.specs.declared.class.Class.TheVariants.{Gate, Register}
 use Rattle.cs_cells.specs.Classes.{class_of}
 use Rattle.cs_cells.specs.Gates.{pin_count, pin_name}
 use Rattle.cs_net.specs.Pins.{class_at, count_from, gate_widths, has_pins, has_sizes, widths_of}
+use Rattle.cs_net.proofs.Members.{append_all}
 use Rattle.cs_multiply.specs.declared.circuit.Circuit.{Circuit}
 use Rattle.cs_multiply.specs.declared.circuit.GatePart.{GatePart}
 use Rattle.cs_multiply.specs.Circuits.{pin, gate_pins, gate_at, gate_bit, gate_cell, is_rising, register_at, register_bit, register_cell}
@@ -24,10 +25,6 @@ use Rattle.cs_multiply.proofs.FineCells.{IsFine, names_of, pin_signal, found_by_
 pub split_all : {A : Type 0} (P : A → Type 0) (xs ys : List A) → AllByRecursion P (xs ++ ys) → AllByRecursion P xs × AllByRecursion P ys
 split_all P [] ys h = (tt, h)
 split_all P (x ∷ xs) ys h = let rest = split_all P xs ys h.1 in ((h.0, rest.0), rest.1)
-
-pub append_all : {A : Type 0} (P : A → Type 0) (xs ys : List A) → AllByRecursion P xs → AllByRecursion P ys → AllByRecursion P (xs ++ ys)
-append_all P [] ys h g = g
-append_all P (x ∷ xs) ys h g = (h.0, append_all P xs ys h.1 g)
 
 of_images : {A B : Type 0} (P : B → Type 0) (f : A → B) (xs : List A) → AllByRecursion P (map f xs) → AllByRecursion (λ x. P (f x)) xs
 of_images P f [] h = tt

@@ -18,6 +18,7 @@ use Rattle.cs_net.specs.Drivers.{is_bit, is_clock, is_output}
 use Rattle.cs_net.specs.Pins.{class_at, count_from, pin_bits, Connection}
 use Rattle.cs_net.specs.Conditions.{cells_of, inout, is_inout, const_z, or_else, is_open_output, is_high_z, input_bits, output_bits, output_bits_in, driven_signals, number_in, least, duplicates, two_drivers, ClockPin, clock_pin, clock_pins, is_open_input, is_bit_of, clock_not_input, first_clock, clock_of, of_clock, two_clocks, same, mixed_edges, clock_as_data, reads_as_data, connections_of, is_register, register_bits, init_values_in, init_values, has_two_starts, two_starts, early_refusal, is_reserved, reserved}
 use Rattle.cs_net.proofs.LogicModules.{IsLogicCell, no_unknown, none_coarse, no_asynchronous, no_misformed}
+use Rattle.cs_net.proofs.Members.{append_all}
 use Rattle.cs_multiply.specs.declared.circuit.Circuit.{Circuit}
 use Rattle.cs_multiply.specs.declared.circuit.RegisterPart.{RegisterPart}
 use Rattle.cs_multiply.specs.Circuits.{places_by_name, input_count, gate_bit, register_bit, gate_at, register_at, gate_cell, register_cell, register_net, gate_cells, register_cells, clock_signal, is_rising, digit_text, text_entry, circuit_module}
@@ -25,7 +26,7 @@ use Rattle.cs_multiply.proofs.Numbers.{each_number, find_one, all_mapped, sums_o
 use Rattle.cs_multiply.proofs.PinNames.{map-append, image_of_image, same_images}
 use Rattle.cs_multiply.proofs.FineCells.{clocks_by}
 use Rattle.cs_multiply.proofs.FineModules.{AreFine, IsClosed, drives_of, data_of, clock_pins_of, are_logic, all_cells_count, pins_right, driven-fine, clock_pins-fine, data_reads-fine, no_open_input, list_any-append}
-use Rattle.cs_multiply.proofs.CircuitCells.{split_all, append_all, all_step, everywhere, gate_is_fine, gate_reads, gate_drives_bit, class_of_gate_cell, register_is_fine, register_reads, register_drives_bit, class_of_register_cell}
+use Rattle.cs_multiply.proofs.CircuitCells.{split_all, all_step, everywhere, gate_is_fine, gate_reads, gate_drives_bit, class_of_gate_cell, register_is_fine, register_reads, register_drives_bit, class_of_register_cell}
 use Rattle.cs_multiply.proofs.CircuitFacts.{IsData, unclocked, clocked, IsCircuit, pin_is_data, source_is_data}
 
 -- ---- lists

@@ -1,6 +1,6 @@
 -- The netlist of the module of a circuit: what drives each bit, the starts, an order of the bits.
 use Rattle.std.proofs.Common.{◌≡◌, ℕ, zero, suc, ◌+◌, ◌-◌, ◌<◌, ◌≤◌, List, [], ◌∷◌, ◌++◌, map, length, get_or, Bool, true, false, not, ◌&&◌, cond, Option, Some, None, refl, sym, ap, ap₂, subst, ◌∙◌, codes, eq-eqb, ne_eqb, eqb-true, arith}
-use Rattle.std.specs.Prelude.{find, filter, filter_map, flat_map, option_map, unwrap_or, bytes_eq, nat_le, nat_lt, ◌==◌, if◌then◌else◌}
+use Rattle.std.specs.Prelude.{find, filter, filter_map, flat_map, option_map, unwrap_or, nat_le, nat_lt, ◌==◌, if◌then◌else◌}
 use Rattle.std.specs.Option.{option_or}
 use Rattle.std.specs.List.{AllByRecursion, list_any, position_from, zip}
 use Rattle.std.proofs.lemmas.List.{append-nil}
@@ -9,14 +9,11 @@ use Rattle.std.proofs.lemmas.Bool.{le-leb, lt-ltb, leb-true, ltb-true}
 use Rattle.cs_base.specs.declared.signal.Signal.{Signal}
 use Rattle.cs_base.specs.declared.signal.Signal.TheVariants.{Zero, Bit}
 use Rattle.cs_json.specs.declared.document.Module.{Module}
-use Rattle.cs_json.specs.declared.document.PortDecl.{PortDecl}
 use Rattle.cs_json.specs.declared.document.CellDecl.{CellDecl}
-use Rattle.cs_json.specs.declared.document.PinDecl.{PinDecl}
 use Rattle.cs_cells.specs.declared.memory.MemShape.{MemShape}
 use Rattle.cs_cells.specs.declared.class.Class.{Class}
 use Rattle.cs_cells.specs.declared.class.Class.TheVariants.{Gate, Register, Memory, Scope, Asynchronous, NotFine, Unknown as UnknownClass}
 use Rattle.cs_cells.specs.Gates.{pin_count, pin_name}
-use Rattle.cs_net.specs.declared.netlist.PinBits.{PinBits}
 use Rattle.cs_net.specs.declared.state.BitValue.{BitValue}
 use Rattle.cs_net.specs.Netlist.{bit_at}
 use Rattle.cs_net.specs.Drivers.{gate, driver_of, data_inputs, data_outputs, register_of, signal_of, is_bit, is_clock, is_input, is_output, memory_read_starts, fanin, holds_bit}
@@ -24,7 +21,8 @@ use Rattle.cs_net.specs.Invariant.{HasOrder}
 use Rattle.cs_net.specs.Pins.{class_at, count_from}
 use Rattle.cs_net.specs.Places.{place_of}
 use Rattle.cs_net.specs.Conditions.{input_bits_in, output_bits_in, number_in, initial_value, init_values}
-use Rattle.cs_net.specs.Build.{net_of, port_of, pin_of, cell_of, shape_of, shape_by, starts_by}
+use Rattle.cs_net.specs.Build.{net_of, cell_of, shape_of, shape_by, starts_by}
+use Rattle.cs_net.proofs.PinLemmas.{same_port_bits, same_bits}
 use Rattle.cs_net.proofs.PlainNets.{IsLogicNet, driver_of-logic, driver_by, drive_of, drive_by, cell_that_drives, output_of, output_by}
 use Rattle.cs_net.proofs.LogicModules.{is_logic_net}
 use Rattle.cs_multiply.specs.declared.circuit.Circuit.{Circuit}
@@ -42,16 +40,8 @@ use Rattle.cs_multiply.proofs.CircuitConditions.{find_in_images, flat-append, ga
 
 -- ---- pins by their names, in a module and in its netlist
 
-same_find : (name : List ℕ) (pins : List PinDecl) → option_map (λ (p : PinBits). p.bits) (find (λ (p : PinBits). bytes_eq p.name name) (map pin_of pins)) ≡ option_map (λ (p : PinDecl). p.bits) (find (λ (p : PinDecl). bytes_eq p.name name) pins)
-same_find name [] = refl
-same_find name (p ∷ pins) =
-    elim (bytes_eq p.name name) as (λ t. option_map (λ (q : PinBits). q.bits) (cond t (Some (pin_of p)) (find (λ (q : PinBits). bytes_eq q.name name) (map pin_of pins))) ≡ option_map (λ (q : PinDecl). q.bits) (cond t (Some p) (find (λ (q : PinDecl). bytes_eq q.name name) pins))) [
-      | true ↦ refl
-      | false ↦ same_find name pins
-    ]
-
 pub same_signal : (cell : CellDecl) (name : List ℕ) → signal_of (cell_of cell) name ≡ pin_signal name cell
-same_signal cell name = ap (λ o. get_or (unwrap_or o []) 0 Zero) (same_find name cell.pins)
+same_signal cell name = ap (λ bits. get_or bits 0 Zero) (same_bits cell name)
 
 same_output : (cell : CellDecl) (k : Class) → output_by k (cell_of cell) ≡ drives_by k cell
 same_output cell (Gate kind) = same_signal cell (codes "Y")
@@ -73,24 +63,6 @@ same_driver_found b (cell ∷ cells) =
       | true ↦ refl
       | false ↦ same_driver_found b cells
     ])
-
--- ---- ports
-
-pub input_ports : (ports : List PortDecl) → flat_map (λ p. p.bits) (filter (λ p. is_input p.direction) (map port_of ports)) ≡ input_bits_in ports
-input_ports [] = refl
-input_ports (p ∷ ports) =
-    elim (is_input p.direction) as (λ b. flat_map (λ q. q.bits) (cond b (port_of p ∷ filter (λ q. is_input q.direction) (map port_of ports)) (filter (λ q. is_input q.direction) (map port_of ports))) ≡ flat_map (λ (q : PortDecl). q.bits) (cond b (p ∷ filter (λ (q : PortDecl). is_input q.direction) ports) (filter (λ (q : PortDecl). is_input q.direction) ports))) [
-      | true ↦ ap (λ rest. p.bits ++ rest) (input_ports ports)
-      | false ↦ input_ports ports
-    ]
-
-pub output_ports : (ports : List PortDecl) → flat_map (λ p. p.bits) (filter (λ p. is_output p.direction) (map port_of ports)) ≡ output_bits_in ports
-output_ports [] = refl
-output_ports (p ∷ ports) =
-    elim (is_output p.direction) as (λ b. flat_map (λ q. q.bits) (cond b (port_of p ∷ filter (λ q. is_output q.direction) (map port_of ports)) (filter (λ q. is_output q.direction) (map port_of ports))) ≡ flat_map (λ (q : PortDecl). q.bits) (cond b (p ∷ filter (λ (q : PortDecl). is_output q.direction) ports) (filter (λ (q : PortDecl). is_output q.direction) ports))) [
-      | true ↦ ap (λ rest. p.bits ++ rest) (output_ports ports)
-      | false ↦ output_ports ports
-    ]
 
 -- ---- starts
 
@@ -118,11 +90,11 @@ module _ (k : Circuit) (is : IsCircuit k) where
 
   inputs_of_made : data_inputs (net_of made) ≡ filter (λ s. not (is_clock k.clock s)) (input_bits_in k.ports)
   unfolding net_of circuit_module
-  inputs_of_made = ap₂ (λ c signals. filter (λ s. not (is_clock c s)) signals) (clock-made k is) (input_ports k.ports)
+  inputs_of_made = ap₂ (λ c signals. filter (λ s. not (is_clock c s)) signals) (clock-made k is) (same_port_bits is_input k.ports)
 
   pub outputs_of_made : data_outputs (net_of made) ≡ output_bits_in k.ports
   unfolding net_of circuit_module
-  outputs_of_made = output_ports k.ports
+  outputs_of_made = same_port_bits is_output k.ports
 
   pub clock_of_made : (net_of made).clock ≡ k.clock
   unfolding net_of

@@ -17,10 +17,11 @@ use Rattle.cs_cells.specs.Gates.{pin_count, pin_name}
 use Rattle.cs_net.specs.Drivers.{is_input, is_output}
 use Rattle.cs_net.specs.Pins.{count_from}
 use Rattle.cs_net.specs.Conditions.{input_bits_in, output_bits_in, is_inout}
+use Rattle.cs_net.proofs.Members.{append_all}
 use Rattle.cs_multiply.specs.declared.circuit.Circuit.{Circuit}
 use Rattle.cs_multiply.specs.Circuits.{input_count, gate_bit, register_bit, gate_at, gate_cell, gate_cells, register_cell, register_cells, register_net, pin, origin_entries, clock_signal, circuit_module, circuit_document}
 use Rattle.cs_multiply.proofs.Numbers.{each_number, all_mapped, numbered_in_order}
-use Rattle.cs_multiply.proofs.CircuitCells.{split_all, append_all, all_step, everywhere, gate_pin_order}
+use Rattle.cs_multiply.proofs.CircuitCells.{split_all, all_step, everywhere, gate_pin_order}
 use Rattle.cs_multiply.proofs.CircuitFacts.{IsData, unclocked, clocked, IsCircuit, pin_is_data, source_is_data}
 use Rattle.cs_multiply.proofs.CircuitConditions.{gate_places, register_places, registers_small}
 

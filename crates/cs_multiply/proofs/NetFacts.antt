@@ -21,21 +21,23 @@ use Rattle.cs_net.specs.declared.netlist.Cell.{Cell}
 use Rattle.cs_net.specs.declared.netlist.Clock.{Clock}
 use Rattle.cs_net.specs.declared.netlist.Port.{Port}
 use Rattle.cs_net.specs.Netlist.{Net}
-use Rattle.cs_net.specs.Drivers.{is_bit, is_input, signal_of, data_outputs, memory_read_starts}
+use Rattle.cs_net.specs.Drivers.{is_bit, is_input, is_output, signal_of, data_outputs, memory_read_starts}
 use Rattle.cs_net.specs.Pins.{Widths, class_at, count_from, gate_widths, register_widths, has_pins, has_sizes, widths_of}
 use Rattle.cs_net.specs.Places.{place_of}
 use Rattle.cs_net.specs.Conditions.{or_else, error_if, cells_of, is_scope, has_right_pins, bad_pins, inout, is_inout, input_bits, output_bits, number_in, least, duplicates, two_drivers, ClockPin, clock_pin, clock_pins, is_bit_of, clock_not_input, first_clock, clock_of, of_clock, clock_as_data, reads_as_data, connections_of, unknown_cell, not_fine, asynchronous, const_z, two_clocks, mixed_edges, early_refusal, is_reserved, reserved}
 use Rattle.cs_net.specs.Build.{net_of, port_of, cell_of, shape_of}
 use Rattle.cs_net.specs.Invariant.{HasOrder, IsWellFormed}
 use Rattle.std.proofs.lemmas.List.{length-map}
+use Rattle.cs_net.proofs.Members.{append_all}
+use Rattle.cs_net.proofs.PinLemmas.{same_port_bits}
 use Rattle.cs_net.proofs.PlainNets.{output_of}
 use Rattle.cs_multiply.specs.Written.{is_plain, port_inputs, is_register, registers_of}
 use Rattle.cs_multiply.proofs.ExactPins.{AreExactly, exact_of_test, both}
 use Rattle.cs_multiply.proofs.PinNames.{in_order, order_of_names, gate_names_in_order, names_of_widths, image_of_image, same_images}
 use Rattle.cs_multiply.proofs.FineCells.{IsFine, names_of, bits_by_order, pin_signal, clocks_by, data_by}
 use Rattle.cs_multiply.proofs.FineModules.{AreFine, drives_of, data_of, clock_pins_of, driven-fine, clock_pins-fine, data_reads-fine}
-use Rattle.cs_multiply.proofs.CircuitCells.{append_all, everywhere}
-use Rattle.cs_multiply.proofs.CircuitNets.{same_signal, output_of_cell, input_ports, output_ports, no_read_starts}
+use Rattle.cs_multiply.proofs.CircuitCells.{everywhere}
+use Rattle.cs_multiply.proofs.CircuitNets.{same_signal, output_of_cell, no_read_starts}
 
 -- a signal that is a bit
 pub record IsBit (s : Signal) : Type 0 where
@@ -306,11 +308,11 @@ module _ (m : Module) (readable : IsModule m) (early : early_refusal m ≡ None)
 
   inputs_of_net : port_inputs (net_of m) ≡ input_bits m
   unfolding net_of
-  inputs_of_net = input_ports m.ports
+  inputs_of_net = same_port_bits is_input m.ports
 
   outputs_of_net : data_outputs (net_of m) ≡ output_bits m
   unfolding net_of
-  outputs_of_net = output_ports m.ports
+  outputs_of_net = same_port_bits is_output m.ports
 
   cells_of_net : (net_of m).cells ≡ map cell_of (cells_of m)
   unfolding net_of

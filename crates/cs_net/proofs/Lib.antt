@@ -35,3 +35,9 @@ pub mod LoopNames
 pub mod ShortcutLemmas
 pub mod DraftLemmas
 pub mod MemoryPlaces
+pub mod MemoryFacts
+pub mod PinLemmas
+pub mod StartOrder
+pub mod Occurrences
+pub mod DrivenOnce
+pub mod PinWidths

@@ -21,6 +21,12 @@ of_all P [] i x all stands = cc
 of_all P (y ∷ xs) zero x (first, rest) stands = let same : y ≡ x = cc in subst P same first
 of_all P (y ∷ xs) (suc i) x (first, rest) stands = of_all P xs i x rest stands
 
+-- what holds of all of two lists holds of all of both together
+pub append_all : {A : Type 0} (P : A → Type 0) (xs ys : List A) → AllByRecursion P xs → AllByRecursion P ys
+    → AllByRecursion P (xs ++ ys)
+append_all P [] ys left right = right
+append_all P (x ∷ xs) ys left right = (left.0, append_all P xs ys left.1 right)
+
 pub has_left : {A : Type 0} (xs ys : List A) (x : A) → Has xs x → Has (xs ++ ys) x
 has_left [] ys x (i, stands) = cc
 has_left (y ∷ xs) ys x (zero, stands) = (zero, stands)

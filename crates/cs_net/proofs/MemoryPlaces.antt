@@ -121,12 +121,12 @@ stands_at (x ∷ xs) k (suc i) d shape order at is =
     (below_differs x.name d.name (all_at (λ c. IsTrue (is_below x.name c.name)) xs i d order.0 at)) (has_words x)
     (λ n. stands_at xs n i d shape order.1 at is)
 
-map_at : {A B : Type 0} (f : A → B) (xs : List A) (i : ℕ) (y : B) → slice_get (map f xs) i ≡ Some y → (x : A) × (slice_get xs i ≡ Some x) × (f x ≡ y)
+pub map_at : {A B : Type 0} (f : A → B) (xs : List A) (i : ℕ) (y : B) → slice_get (map f xs) i ≡ Some y → (x : A) × (slice_get xs i ≡ Some x) × (f x ≡ y)
 map_at f [] i y at = absurd (cc)
 map_at f (x ∷ xs) zero y at = let same : f x ≡ y = cc in (x, refl, same)
 map_at f (x ∷ xs) (suc i) y at = map_at f xs i y at
 
-at_map : {A B : Type 0} (f : A → B) (xs : List A) (i : ℕ) (x : A) → slice_get xs i ≡ Some x → slice_get (map f xs) i ≡ Some (f x)
+pub at_map : {A B : Type 0} (f : A → B) (xs : List A) (i : ℕ) (x : A) → slice_get xs i ≡ Some x → slice_get (map f xs) i ≡ Some (f x)
 at_map f [] i x at = absurd (cc)
 at_map f (z ∷ xs) zero x at = let same : z ≡ x = cc in ap (λ y. Some (f y)) same
 at_map f (z ∷ xs) (suc i) x at = at_map f xs i x at

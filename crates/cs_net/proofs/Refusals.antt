@@ -43,3 +43,19 @@ no_bad_pins m none = by (class_refusal m) (bad_pins m) _ (grouped m ∙ none)
     by (Some e) b rest h = absurd (cc)
     by None (Some e) rest h = absurd (cc)
     by None None rest h = refl
+
+-- and no bit is driven twice
+pub no_two_drivers : (m : Module) → early_refusal m ≡ None → two_drivers m ≡ None
+unfolding early_refusal
+no_two_drivers m none =
+    by (unknown_cell m) (not_fine m) (asynchronous m) (bad_pins m) (inout m) (const_z m) (two_drivers m) _ none
+  where
+    by : {A : Type 0} (u f a p i z t rest : Option A) → or_else u (or_else f (or_else a (or_else p (or_else i (or_else z (or_else t rest)))))) ≡ None → t ≡ None
+    by (Some u) f a p i z t rest h = absurd (cc)
+    by None (Some f) a p i z t rest h = absurd (cc)
+    by None None (Some a) p i z t rest h = absurd (cc)
+    by None None None (Some p) i z t rest h = absurd (cc)
+    by None None None None (Some i) z t rest h = absurd (cc)
+    by None None None None None (Some z) t rest h = absurd (cc)
+    by None None None None None None (Some t) rest h = absurd (cc)
+    by None None None None None None None rest h = refl

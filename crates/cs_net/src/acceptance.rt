@@ -1,9 +1,11 @@
 // Turns a document into the netlist of its top module, or tells the first reason why there is none.
-ghost use Rattle.std.specs.Prelude.{◌≡◌, ◌⊎◌, IfErr, IfOk, MatchOption, None, option_map};
+ghost use Rattle.std.specs.Prelude.{◌≡◌, ◌⊎◌, IfErr, IfOk, None, option_map};
 ghost use Rattle.cs_json.specs.Readable.{IsModule, IsReadable};
-ghost use Rattle.cs_net.specs.Accept.{IsAccepted, IsLoopOfCells, Refuses, RefusesLate, RefusesModule};
+ghost use Rattle.cs_order.specs.Graphs.{IsOrder};
+ghost use Rattle.cs_net.specs.Accept.{IsAccepted, Refuses, RefusesLate, RefusesModule};
 ghost use Rattle.cs_net.specs.Build.{IsDraftOf, net_of};
 ghost use Rattle.cs_net.specs.Conditions.{bad_pins, early_refusal};
+ghost use Rattle.cs_net.specs.Elements.{elements_of, graph_of};
 ghost use Rattle.cs_net.specs.Invariant.{HasOrder, IsSound};
 ghost use Rattle.cs_net.specs.declared.error.NetError.{NetError};
 ghost use Rattle.cs_net.specs.declared.error.NetError.TheVariants.{NoMemory};
@@ -18,7 +20,7 @@ use crate::loops::loop_names;
 use crate::memories::{memories, memory_places, shapes};
 use crate::netlist::{Cell, Clock, Netlist, Port};
 use crate::refusal::{clock_of, early_refusal};
-use cs_base::{Sequence, Text};
+use cs_base::Sequence;
 use cs_cells::MemShape;
 use cs_json::{Document, Module};
 use cs_order::Arrangement;
@@ -45,53 +47,57 @@ fn make_draft(alloc: Global, top: &Module) -> Result<Draft, AllocError>
     })
 }
 
-// The cells of a loop of gates and unclocked reads.
-fn find_loop(
-    alloc: Global,
-    top: &Module,
-    draft: &Draft,
-) -> Result<Option<Sequence<Text>>, AllocError>
+// An order of the netlist's elements, where gates and unclocked reads form no loop.
+fn arrange_cells(alloc: Global, top: &Module, draft: &Draft) -> Result<Sequence<u32>, NetError>
     requires readable { IsModule top.now }
     requires draft { IsDraftOf top.now draft.now }
-    ensures { IfOk result (λ found. MatchOption found (HasOrder (net_of top.now)) (IsLoopOfCells (net_of top.now))) }
+    ensures elements { IfOk result (IsOrder (graph_of (elements_of (net_of top.now)))) }
+    ensures bits { IfOk result (λ _. HasOrder (net_of top.now)) }
+    ensures refuses { IfErr result (λ e. (e ≡ NoMemory) ⊎ RefusesLate top.now e) }
 {
     let _ = top;
     let cells = draft.cells.as_slice();
     let shapes = draft.shapes.as_slice();
     let elements = elements(alloc, draft.ports.as_slice(), draft.clock, cells, shapes)?;
     match arrange_elements(alloc, elements.as_slice())? {
-        Arrangement::Order(_) => Ok(None),
+        Arrangement::Order(order) => Ok(Sequence::from_vec(order)),
         Arrangement::Loop(vertices) => {
-            let names = loop_names(alloc, elements.as_slice(), cells, vertices.as_slice())?;
-            Ok(Some(names))
+            let cells = loop_names(alloc, elements.as_slice(), cells, vertices.as_slice())?;
+            Err(NetError::GateLoop { cells })
         }
     }
 }
 
-// The first of the conditions 15 to 17 that holds, told as its refusal.
-fn late_refusal(alloc: Global, top: &Module, draft: &Draft) -> Result<Option<NetError>, AllocError>
+// An order of the netlist's elements, where none of the conditions 15 to 17 holds.
+fn check_late(alloc: Global, top: &Module, draft: &Draft) -> Result<Sequence<u32>, NetError>
     requires readable { IsModule top.now }
     requires draft { IsDraftOf top.now draft.now }
-    ensures { IfOk result (λ found. MatchOption found (IsSound top.now) (RefusesLate top.now)) }
+    ensures sound { IfOk result (λ _. IsSound top.now) }
+    ensures order { IfOk result (IsOrder (graph_of (elements_of (net_of top.now)))) }
+    ensures refuses { IfErr result (λ e. (e ≡ NoMemory) ⊎ RefusesLate top.now e) }
 {
-    if let Some(cells) = find_loop(alloc, top, draft)? {
-        return Ok(Some(NetError::GateLoop { cells }));
-    }
+    let order = arrange_cells(alloc, top, draft)?;
     if let Some(error) = reserved(alloc, draft.clock, top)? {
-        return Ok(Some(error));
+        return Err(error);
     }
     match limit_fault(draft.cells.len(), draft.shapes.as_slice()) {
-        Some(fault) => Ok(Some(NetError::Limit(fault))),
-        None => Ok(None),
+        Some(fault) => Err(NetError::Limit(fault)),
+        None => Ok(order),
     }
 }
 
 // The netlist of a module that no condition refuses.
-fn netlist_of(alloc: Global, top: &Module, draft: Draft) -> Result<Netlist, AllocError>
+fn netlist_of(
+    alloc: Global,
+    top: &Module,
+    draft: Draft,
+    order: Sequence<u32>,
+) -> Result<Netlist, AllocError>
     requires readable { IsModule top.now }
     requires early { early_refusal top.now ≡ None }
     requires sound { IsSound top.now }
     requires draft { IsDraftOf top.now draft }
+    requires order { IsOrder (graph_of (elements_of (net_of top.now))) order }
     ensures { IfOk result (λ net. net ≡ net_of top.now) }
 {
     let memories = memories(alloc, top)?;
@@ -108,6 +114,7 @@ fn netlist_of(alloc: Global, top: &Module, draft: Draft) -> Result<Netlist, Allo
         clock: draft.clock,
         starts,
         memories,
+        order,
         start_values,
         memory_places,
         input_count,
@@ -123,10 +130,8 @@ fn accept_drafted(alloc: Global, top: &Module) -> Result<Netlist, NetError>
     ensures refuses { IfErr result (λ e. (e ≡ NoMemory) ⊎ RefusesLate top.now e) }
 {
     let draft = make_draft(alloc, top)?;
-    match late_refusal(alloc, top, &draft)? {
-        Some(error) => Err(error),
-        None => Ok(netlist_of(alloc, top, draft)?),
-    }
+    let order = check_late(alloc, top, &draft)?;
+    Ok(netlist_of(alloc, top, draft, order)?)
 }
 
 fn accept_module(alloc: Global, top: &Module) -> Result<Netlist, NetError>

@@ -79,8 +79,8 @@ pub(crate) fn cells(alloc: Global, cells: &[CellDecl]) -> Result<Sequence<Cell>,
     Ok(made)
 }
 
-// The bits of the output ports, port by port.
-fn output_bits(alloc: Global, ports: &[Port]) -> Result<Vec<Signal>, AllocError>
+/// The bits of the output ports, port by port.
+pub(crate) fn output_bits(alloc: Global, ports: &[Port]) -> Result<Vec<Signal>, AllocError>
     ensures { IfOk result (λ bits. bits.items
         ≡ flat_map (λ p. p.bits) (filter (λ p. is_output p.direction) ports.now)) }
 {

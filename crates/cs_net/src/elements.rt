@@ -19,12 +19,12 @@ use std::alloc::{AllocError, Global};
 
 /// What drives some bits: the data inputs together, a gate, a register, or a read port of a memory.
 #[derive(Drop)]
-pub(crate) struct Element {
+pub struct Element {
     /// The place of its cell among the netlist's; 0 for the data inputs.
-    pub(crate) cell: usize,
-    pub(crate) outputs: Sequence<Signal>,
+    pub cell: usize,
+    pub outputs: Sequence<Signal>,
     /// What its outputs depend on within a clock.
-    pub(crate) inputs: Sequence<Signal>,
+    pub inputs: Sequence<Signal>,
 }
 
 // ---- the data inputs
@@ -70,8 +70,8 @@ fn input_bits(alloc: Global, ports: &[Port]) -> Result<Vec<Signal>, AllocError>
     Ok(bits)
 }
 
-// The bits of the input ports without the clock, port by port.
-fn data_inputs(
+/// The bits of the input ports without the clock, port by port.
+pub(crate) fn data_inputs(
     alloc: Global,
     ports: &[Port],
     clock: Option<Clock>,
@@ -147,15 +147,6 @@ fn register(alloc: Global, place: usize, cell: &Cell) -> Result<Element, AllocEr
     })
 }
 
-// The part of a read port among the bits of a pin.
-fn part(bits: &[Signal], width: u32, port: usize) -> &[Signal]
-    ensures { result.now ≡ slice_range bits.now (port * width) (port * width + width) }
-{
-    let start = port.saturating_mul(width as usize).min(bits.len());
-    let end = start.saturating_add(width as usize).min(bits.len());
-    &bits[start..end]
-}
-
 // What a read port depends on within a clock.
 fn read_inputs(
     alloc: Global,
@@ -170,7 +161,7 @@ fn read_inputs(
     if read.clocked {
         Ok(Sequence::new(alloc))
     } else {
-        signals(alloc, part(cell.bits("RD_ADDR"), shape.abits, port))
+        signals(alloc, cell.port_part("RD_ADDR", shape.abits, port))
     }
 }
 
@@ -187,7 +178,7 @@ fn read_port(
 {
     Ok(Element {
         cell: place,
-        outputs: signals(alloc, part(cell.bits("RD_DATA"), shape.width, port))?,
+        outputs: signals(alloc, cell.port_part("RD_DATA", shape.width, port))?,
         inputs: read_inputs(alloc, cell, shape, port, read)?,
     })
 }

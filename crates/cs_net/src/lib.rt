@@ -22,9 +22,13 @@ mod state;
 
 pub use acceptance::accept;
 pub use connection::Role;
+pub use elements::Element;
 pub use error::NetError;
 pub use images::Images;
-pub use laws::{isolates_itself, one_trace, rows_of_a_part};
+pub use laws::{
+    driven_once, isolates_itself, memories_in_order, one_trace, pins_are_wide, rows_of_a_part,
+    starts_in_order, words_by_name,
+};
 pub use netlist::{Cell, Clock, Netlist, PinBits, Port};
 pub use places::Places;
 pub use state::{BitValue, MemoryWords, Snapshot};

@@ -1,17 +1,22 @@
 // An accepted netlist.
-ghost use Rattle.std.specs.Prelude.{◌≡◌, ◌<◌, [], Some, bytes_eq, false, find, get_or, length, option_map, slice_get};
+ghost use Rattle.std.specs.Prelude.{◌≡◌, ◌<◌, [], IfOk, Some, bytes_eq, false, find, get_or, length, option_map, slice_get};
 ghost use Rattle.cs_cells.specs.declared.memory.MemShape.{MemShape};
 ghost use Rattle.std.specs.Option.{option_and_then, option_copied};
 ghost use Rattle.cs_net.specs.declared.netlist.Cell.{Cell};
-ghost use Rattle.cs_net.specs.Drivers.{bits_of, data_inputs, data_outputs, signal_of};
+ghost use Rattle.cs_order.specs.Graphs.{IsOrder};
+ghost use Rattle.cs_net.specs.Drivers.{bits_of, data_inputs, data_outputs, port_part, signal_of};
+ghost use Rattle.cs_net.specs.Elements.{elements_of, graph_of};
 ghost use Rattle.cs_net.specs.Netlist.{Net, bit_at, words_at};
 ghost use Rattle.cs_net.specs.Invariant.{IsMemoryBit, IsWellFormed};
 ghost use Rattle.cs_net.specs.Starts.{noted_value};
 
+use crate::build::output_bits;
+use crate::elements::data_inputs;
 use crate::state::{BitValue, MemoryWords};
 use cs_base::{BitId, Sequence, Signal, Text};
 use cs_cells::{Class, MemShape};
 use cs_json::Direction;
+use std::alloc::{AllocError, Global};
 use std::collections::HashMap;
 use std::marker::Model;
 
@@ -39,6 +44,16 @@ impl Cell {
         ensures { result ≡ signal_of self.now name.now }
     {
         self.bits(name).first().copied().unwrap_or(Signal::Zero)
+    }
+
+    /// The part of a memory's port among the bits of a pin, `width` bits for each port.
+    pub fn port_part(&self, name: &str, width: u32, port: usize) -> &[Signal]
+        ensures { result.now ≡ port_part self.now name.now width port }
+    {
+        let bits = self.bits(name);
+        let start = port.saturating_mul(width as usize).min(bits.len());
+        let end = start.saturating_add(width as usize).min(bits.len());
+        &bits[start..end]
     }
 }
 
@@ -80,6 +95,8 @@ pub struct Netlist {
     pub(crate) clock: Option<Clock>,
     pub(crate) starts: Sequence<BitValue>,
     pub(crate) memories: Sequence<MemoryWords>,
+    /// The numbers of the elements, each after those that drive its inputs.
+    pub(crate) order: Sequence<u32>,
     /// The starts by the numbers of their bits.
     pub(crate) start_values: HashMap<u32, bool>,
     /// For each cell that is a memory, where its words stand among the memories.
@@ -96,7 +113,9 @@ impl Model for Netlist {
     ghost view = { λ n. record { name = n.name; ports = n.ports; cells = n.cells; shapes = n.shapes; clock = n.clock; starts = n.starts; memories = n.memories } };
 
     ghost use Rattle.std.specs.Prelude.{◌≡◌, ℕ, length};
+    ghost use Rattle.cs_order.specs.Graphs.{IsOrder};
     ghost use Rattle.cs_net.specs.Drivers.{data_inputs, data_outputs};
+    ghost use Rattle.cs_net.specs.Elements.{elements_of, graph_of};
     ghost use Rattle.cs_net.specs.Invariant.{AreMemoryPlaces, IsWellFormed};
     ghost use Rattle.cs_net.specs.Netlist.{bit_at};
     ghost use Rattle.cs_net.specs.Starts.{noted_value};
@@ -107,7 +126,8 @@ impl Model for Netlist {
         × ((b : ℕ) → noted_value n.start_values b ≡ bit_at n.starts b)
         × AreMemoryPlaces net n.memory_places
         × (n.input_count ≡ length (data_inputs net))
-        × (n.output_count ≡ length (data_outputs net)) };
+        × (n.output_count ≡ length (data_outputs net))
+        × IsOrder (graph_of (elements_of net)) n.order };
 }
 
 impl Netlist {
@@ -170,11 +190,56 @@ impl Netlist {
         self.clock
     }
 
+    /// The numbers of the netlist's elements, in an order in which each stands after those that drive its inputs. Element
+    /// 0 is the data inputs; the others are numbered cell by cell from 1 on: a gate and a register are one each, a memory
+    /// has one for each read port, in order. Registers and clocked reads depend on nothing.
+    pub fn order(&self) -> &[u32]
+        ensures { IsOrder (graph_of (elements_of self.now)) result.now }
+    {
+        self.order.as_slice()
+    }
+
+    /// The shapes of the memories: for each cell one, of a memory alone, in order of the cells.
+    pub fn shapes(&self) -> &[Option<MemShape>]
+        ensures { result.now ≡ self.now.shapes }
+    {
+        self.shapes.as_slice()
+    }
+
+    /// The bit Q of each register with its start, in order of the cells.
+    pub fn starts(&self) -> &[BitValue]
+        ensures { result.now ≡ self.now.starts }
+    {
+        self.starts.as_slice()
+    }
+
+    /// The words of each memory at the start, in order of the cells.
+    pub fn memories(&self) -> &[MemoryWords]
+        ensures { result.now ≡ self.now.memories }
+    {
+        self.memories.as_slice()
+    }
+
     /// The start of a register's bit Q, and false for every other bit.
     pub fn start(&self, bit: BitId) -> bool
         ensures { result ≡ bit_at self.now.starts bit }
     {
         self.start_values.get(&bit.get()).copied().unwrap_or(false)
+    }
+
+    /// The data input bits: those of the input ports without the clock, port by port, least first. It errs only where
+    /// memory runs out.
+    pub fn data_inputs(&self, alloc: Global) -> Result<Vec<Signal>, AllocError>
+        ensures { IfOk result (λ inputs. inputs.items ≡ data_inputs self.now) }
+    {
+        data_inputs(alloc, self.ports.as_slice(), self.clock)
+    }
+
+    /// The data output bits: those of the output ports, port by port, least first. It errs only where memory runs out.
+    pub fn data_outputs(&self, alloc: Global) -> Result<Vec<Signal>, AllocError>
+        ensures { IfOk result (λ outputs. outputs.items ≡ data_outputs self.now) }
+    {
+        output_bits(alloc, self.ports.as_slice())
     }
 
     /// The number of data input bits: the bits of the input ports without the clock.

@@ -1,6 +1,9 @@
 use crate::digits::{digits_of, value_of};
 use crate::numbers::{least_duplicate, least_of, number_set};
-use crate::{Images, NetError, accept, rows_of_a_part};
+use crate::{
+    Images, NetError, accept, driven_once, memories_in_order, pins_are_wide, rows_of_a_part,
+    starts_in_order, words_by_name,
+};
 use cs_base::Text;
 use cs_json::{Datum, read_document};
 use std::test::Fail;
@@ -58,6 +61,27 @@ fn a_memory_is_accepted(rt: HostRuntime) -> Result<(), Fail> {
     assert!(rt; net.memory(1).is_none());
     let images = Images::none(alloc, &net)?;
     assert_eq!(rt; images.of.len(), 1);
+    Ok(())
+}
+
+#[test]
+fn a_memory_is_listed(rt: HostRuntime) -> Result<(), Fail> {
+    let alloc = rt.alloc();
+    let document = read_document(alloc, MEMORY.as_bytes()).map_err(|_| "a document")?;
+    let net = accept(alloc, &document, None).map_err(|_| "a netlist")?;
+    // The read port depends on its address, which data inputs drive.
+    assert_eq!(rt; net.order(), [0, 1].as_slice());
+    assert_eq!(rt; net.shapes().len(), 1);
+    assert!(rt; net.starts().is_empty());
+    let memory = net.memories().first().ok_or("words")?;
+    assert_eq!(rt; memory.name.as_str(), "m");
+    let word = memory.words.as_slice().get(1).ok_or("a word")?;
+    assert_eq!(rt; word.as_slice(), [false, true].as_slice());
+    memories_in_order(&net);
+    words_by_name(&net);
+    starts_in_order(&net);
+    driven_once(&net);
+    pins_are_wide(&net);
     Ok(())
 }
 

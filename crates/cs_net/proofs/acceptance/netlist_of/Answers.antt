@@ -1,7 +1,9 @@
 use Rattle.std.proofs.Common.{rules, ◌∙◌, List, ap, filter, flat_map, length, not, subst, sym}
 use Rattle.cs_net.specs.Drivers.{is_clock, is_input, is_output}
 use Rattle.cs_net.specs.declared.netlist.Port.{Port}
+use Rattle.cs_order.specs.Graphs.{IsOrder}
 use Rattle.cs_net.specs.Build.{net_of, places_from}
+use Rattle.cs_net.specs.Elements.{elements_of, graph_of}
 use Rattle.cs_net.specs.Invariant.{AreMemoryPlaces}
 use Rattle.cs_net.proofs.MemoryPlaces.{are_memory_places}
 use Rattle.cs_net.specs.Netlist.{bit_at}
@@ -28,6 +30,7 @@ invariant_of-result c =
           ∙ ap (λ (ports : List Port). length (filter (λ s. not (is_clock c.args.draft.clock s)) (flat_map (λ p. p.bits) (filter (λ p. is_input p.direction) ports)))) c.as_slice-2.ensures,
       c.in_ok-output_count.ensures
           ∙ ap (λ (ports : List Port). length (flat_map (λ p. p.bits) (filter (λ p. is_output p.direction) ports))) c.as_slice-3.ensures,
+      subst (λ n. IsOrder (graph_of (elements_of n)) c.args.order) (sym is) c.requires.order,
     )
 
 pub returns : goal.returns
