@@ -1,0 +1,5 @@
+pub mod Lines
+pub mod Mixing
+pub mod Printing
+pub mod Reading
+pub mod Rows
