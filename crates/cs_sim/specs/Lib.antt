@@ -1,0 +1,5 @@
+pub mod Slots
+pub mod Layout
+pub mod Clock
+pub mod Start
+pub mod Simulation
