@@ -1,7 +1,7 @@
 -- The line of each fault.
-use Rattle.std.specs.Prelude.{ℕ, List, [], ◌∷◌, ◌++◌, codes}
+use Rattle.std.specs.Prelude.{ℕ, List, [], ◌∷◌, ◌++◌, codes, decimal}
 use Rattle.cs_report.specs.declared.fault.Fault.{Fault}
-use Rattle.cs_report.specs.declared.fault.Fault.TheVariants.{NoMemory, WordsOf, CannotRead, CannotWrite, DocumentNotJson, DocumentShape, Refused, Limit, FileTooLong, NotBuilt, NotBuiltCell}
+use Rattle.cs_report.specs.declared.fault.Fault.TheVariants.{NoMemory, NoCommand, WordsOf, CannotRead, CannotWrite, DocumentNotJson, DocumentShape, Refused, Limit, FileTooLong, StimulusWidth, StimulusCharacter, StimulusUneven, NotBuilt, NotBuiltCell}
 use Rattle.cs_report.specs.Limits.{limit_words}
 use Rattle.cs_report.specs.Refused.{refused_words}
 use Rattle.cs_report.specs.Words.{quoted}
@@ -10,8 +10,21 @@ use Rattle.cs_report.specs.Words.{quoted}
 abbrev pub too_long : List ℕ → List ℕ
 too_long name = codes "limit: " ++ name ++ codes " is longer than 67108864 bytes"
 
+-- a line of a stimulus, by its number from 1
+abbrev pub line_width : ℕ → List ℕ
+line_width line = codes "stimulus: line " ++ decimal line ++ codes " has another length"
+
+-- a byte of a line, by its column from 1
+abbrev pub line_column : ℕ → ℕ → List ℕ
+line_column line column = codes "stimulus: line " ++ (decimal line ++ (codes " column " ++ decimal column))
+
+-- a stream, by its place from 0
+abbrev pub uneven : ℕ → List ℕ
+uneven stream = codes "stimulus: stream " ++ decimal stream ++ codes " has another count of lines"
+
 abbrev pub fault_words : Fault → List ℕ
 fault_words NoMemory = codes "out of memory"
+fault_words NoCommand = codes "usage: no such command"
 fault_words (WordsOf command) = codes "usage: words of " ++ command
 fault_words (CannotRead name) = codes "cannot read " ++ name
 fault_words (CannotWrite name) = codes "cannot write " ++ name
@@ -20,6 +33,9 @@ fault_words (DocumentShape place) = codes "document: bad shape at " ++ place.pat
 fault_words (Refused error) = refused_words error
 fault_words (Limit fault) = limit_words fault
 fault_words (FileTooLong name) = too_long name
+fault_words (StimulusWidth line) = line_width line
+fault_words (StimulusCharacter line column) = line_column line column
+fault_words (StimulusUneven stream) = uneven stream
 fault_words NotBuilt = codes "not built"
 fault_words (NotBuiltCell name) = codes "not built: " ++ quoted name
 

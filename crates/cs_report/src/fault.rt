@@ -1,6 +1,6 @@
 // Why a run is refused, and the line that says so.
 ghost use Rattle.std.specs.Prelude.{◌≡◌, IfOk};
-ghost use Rattle.cs_report.specs.FaultLines.{fault_line, fault_words, too_long};
+ghost use Rattle.cs_report.specs.FaultLines.{fault_line, fault_words, too_long, line_width, line_column, uneven};
 ghost use Rattle.cs_report.specs.Limits.{counted_words, limit_words};
 
 use crate::refused::refused_text;
@@ -15,6 +15,8 @@ use std::alloc::{AllocError, Global};
 pub enum Fault {
     /// There was no memory.
     NoMemory,
+    /// The first word names no command, or there is none.
+    NoCommand,
     /// The words are not those of this command.
     WordsOf(Text),
     /// The file of this name can't be read.
@@ -31,6 +33,12 @@ pub enum Fault {
     Limit(LimitFault),
     /// The file of this name has more than 67,108,864 bytes.
     FileTooLong(Text),
+    /// This line of a stimulus, from 1, has another length than the lines of its file or its netlist.
+    StimulusWidth { line: u64 },
+    /// This line of a stimulus holds at this column a byte other than `0` and `1`; both count from 1.
+    StimulusCharacter { line: u64, column: u64 },
+    /// This stream of those that are mixed, from 0, has another number of lines than its place asks for.
+    StimulusUneven(u32),
     /// The netlist is in no form that is handled yet.
     NotBuilt,
     /// This cell of the netlist isn't handled yet.
@@ -69,11 +77,32 @@ fn too_long(alloc: Global, name: &str) -> Result<Text, AllocError>
     Ok(Text::from_string(format!(in alloc; "limit: {name} is longer than 67108864 bytes")?))
 }
 
+fn line_width(alloc: Global, line: u64) -> Result<Text, AllocError>
+    ensures { IfOk result (λ text. text ≡ line_width line) }
+{
+    Ok(Text::from_string(format!(in alloc; "stimulus: line {line} has another length")?))
+}
+
+fn line_column(alloc: Global, line: u64, column: u64) -> Result<Text, AllocError>
+    ensures { IfOk result (λ text. text ≡ line_column line column) }
+{
+    Ok(Text::from_string(format!(in alloc; "stimulus: line {line} column {column}")?))
+}
+
+fn uneven(alloc: Global, stream: u32) -> Result<Text, AllocError>
+    ensures { IfOk result (λ text. text ≡ uneven stream) }
+{
+    Ok(Text::from_string(format!(in alloc;
+        "stimulus: stream {stream} has another count of lines"
+    )?))
+}
+
 fn fault_words(alloc: Global, fault: &Fault) -> Result<Text, AllocError>
     ensures { IfOk result (λ text. text ≡ fault_words fault.now) }
 {
     match fault {
         Fault::NoMemory => Text::from_str(alloc, "out of memory"),
+        Fault::NoCommand => Text::from_str(alloc, "usage: no such command"),
         Fault::WordsOf(command) => text_after(alloc, "usage: words of ", command.as_str()),
         Fault::CannotRead(name) => text_after(alloc, "cannot read ", name.as_str()),
         Fault::CannotWrite(name) => text_after(alloc, "cannot write ", name.as_str()),
@@ -84,6 +113,9 @@ fn fault_words(alloc: Global, fault: &Fault) -> Result<Text, AllocError>
         Fault::Refused(error) => refused_text(alloc, error),
         Fault::Limit(fault) => limit_text(alloc, *fault),
         Fault::FileTooLong(name) => too_long(alloc, name.as_str()),
+        Fault::StimulusWidth { line } => line_width(alloc, *line),
+        Fault::StimulusCharacter { line, column } => line_column(alloc, *line, *column),
+        Fault::StimulusUneven(stream) => uneven(alloc, *stream),
         Fault::NotBuilt => Text::from_str(alloc, "not built"),
         Fault::NotBuiltCell(name) => quoted_after(alloc, "not built: ", name.as_str()),
     }

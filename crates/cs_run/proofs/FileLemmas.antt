@@ -1,7 +1,7 @@
 -- What is told of files, and which of them a write changes.
 use Rattle.std.proofs.Common.{◌≡◌, ℕ, List, [], Option, Some, None, true, false, cond, Contains, sym, subst, ap, ◌∙◌, inl, inr, refl}
 use Rattle.std.proofs.lemmas.List.{append-nil}
-use Rattle.std.specs.Prelude.{IsSomeAnd}
+use Rattle.std.specs.Prelude.{IsSome, IsSomeAnd}
 use Rattle.std.specs.Ordering.{nat_cmp, eq_by_cmp}
 use Rattle.std.specs.Cmp.Lexicographic.{slice_cmp, texts_ties, nat_list_cmp_total}
 use Rattle.std.proofs.lemmas.Slice.Eq.{bytes_eq-Decides}
@@ -13,15 +13,6 @@ use Rattle.cs_run.specs.Outcomes.{PutsSome}
 use Rattle.cs_run.specs.Promises.{file_in, OthersStay}
 
 -- ---- what a file has
-
-some_and : (P Q : List ℕ → Type 0) → ((bytes : List ℕ) → P bytes → Q bytes) → (found : Option (List ℕ)) → IsSomeAnd found P → IsSomeAnd found Q
-some_and P Q step None h = h
-some_and P Q step (Some bytes) h = step bytes h
-
-pub has_weaker : (files : Option Files) (name : List ℕ) (P Q : List ℕ → Type 0) → ((bytes : List ℕ) → P bytes → Q bytes) →
-    FileHas files name P → FileHas files name Q
-has_weaker None name P Q step h = h
-has_weaker (Some told) name P Q step h = some_and P Q step (get told name) h
 
 found_has : (P : List ℕ → Type 0) (found : Option (List ℕ)) (bytes : List ℕ) → Some found ≡ Some (Some bytes) → IsSomeAnd found P → P bytes
 found_has P None bytes is h = absurd h
@@ -38,7 +29,7 @@ tested : (name other : List ℕ) → (name ≡ other → ⊥) → eq_by_cmp (sli
 tested name other differ = sym (texts_ties name other) ∙ false_from_ne_true _ (λ e. differ ((bytes_eq-Decides name other).0 e))
 
 -- a write changes no file of another name
-pub other_file : (files : Option Files) (name bytes other : List ℕ) → (other ≡ name → ⊥) → file_in (with_file files name bytes) other ≡ file_in files other
+other_file : (files : Option Files) (name bytes other : List ℕ) → (other ≡ name → ⊥) → file_in (with_file files name bytes) other ≡ file_in files other
 other_file None name bytes other differ = refl
 other_file (Some told) name bytes other differ =
     ap Some (get-insert nat_list_cmp_total told name bytes other ∙ ap (λ b. cond b (Some bytes) (get told other)) (tested other name differ))
@@ -71,9 +62,13 @@ puts_nothing old new (inr stops) = absurd (stops.0 refl)
 tied_itself : (name : List ℕ) → eq_by_cmp (slice_cmp nat_cmp) name name ≡ true
 tied_itself name = sym (texts_ties name name) ∙ (bytes_eq-Decides name name).1 refl
 
+pub told_here : (files : Option Files) (name bytes : List ℕ) → IsSome files → file_in (with_file files name bytes) name ≡ Some (Some bytes)
+told_here None name bytes told = absurd (cc)
+told_here (Some files) name bytes told =
+    ap Some (get-insert nat_list_cmp_total files name bytes name
+    ∙ ap (λ b. cond b (Some bytes) (get files name)) (tied_itself name))
+
 pub told_file : (files : Option Files) (name other bytes netlist : List ℕ) → file_in files other ≡ Some (Some bytes) →
     file_in (with_file files name netlist) name ≡ Some (Some netlist)
 told_file None name other bytes netlist told = absurd (cc)
-told_file (Some files) name other bytes netlist told =
-    ap Some (get-insert nat_list_cmp_total files name netlist name
-    ∙ ap (λ b. cond b (Some netlist) (get files name)) (tied_itself name))
+told_file (Some files) name other bytes netlist told = told_here (Some files) name netlist refl

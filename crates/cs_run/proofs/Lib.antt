@@ -1,5 +1,11 @@
 pub mod ReasonLemmas
+pub mod ReadingLemmas
+pub mod AnswerLemmas
+pub mod RowLemmas
+pub mod ReplyLemmas
+pub mod BytesLemmas
 pub mod Ran
 pub mod FileLemmas
+pub mod CommandLemmas
+pub mod OtherFiles
 pub mod PromiseLemmas
-pub mod BytesLemmas

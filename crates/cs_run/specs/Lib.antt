@@ -1,7 +1,12 @@
 pub mod Statuses
 pub mod Replies
-pub mod Inputs
+pub mod Reasons
 pub mod Bytes
 pub mod Slow
+pub mod Sim
+pub mod Mix
+pub mod Part
+pub mod Rows
+pub mod Answers
 pub mod Outcomes
 pub mod Promises

@@ -1,23 +1,25 @@
 -- What a run leaves in a store and a sink, status by status.
-use Rattle.std.specs.Prelude.{ℕ, ◌≤◌, ◌≡◌, ◌≢◌, ◌⊎◌, length, Result, Ok, Err, Vec, List, [], ◌∷◌, ◌++◌, Option, None, Some, Contains, MatchOption, codes}
-use Rattle.std.specs.Option.{option_map_or}
+use Rattle.std.specs.Prelude.{ℕ, ◌<◌, ◌≤◌, ◌≡◌, ◌≢◌, ◌⊎◌, length, Result, Ok, Err, Vec, List, [], ◌∷◌, ◌++◌, MatchResult}
 use Rattle.std.specs.declared.alloc.Global.{Global}
-use Rattle.cs_io.specs.Stores.{StoreState, Files, FileHas, with_file, FailsToWrite}
+use Rattle.cs_io.specs.Stores.{StoreState, FileHas, with_file, FailsToWrite}
 use Rattle.cs_io.specs.Sinks.{SinkState, appended, FailsToPut}
-use Rattle.cs_report.specs.declared.fault.Fault.TheVariants.{NoMemory as NoMemoryFault, WordsOf, CannotRead}
+use Rattle.cs_report.specs.declared.fault.Fault.{Fault}
+use Rattle.cs_report.specs.declared.fault.Fault.TheVariants.{NoMemory as NoMemoryFault, NoCommand as NoCommandFault, WordsOf, CannotRead, FileTooLong}
 use Rattle.cs_report.specs.FaultLines.{fault_line}
 use Rattle.cs_words.specs.declared.command.Command.{Command}
-use Rattle.cs_words.specs.declared.command.Command.TheVariants.{Slow}
+use Rattle.cs_words.specs.declared.read.WordError.{WordError}
+use Rattle.cs_words.specs.declared.read.WordError.TheVariants.{NoCommand, BadWords, NoMemory as NoMemoryForWords}
 use Rattle.cs_words.specs.Commands.{command_of}
 use Rattle.cs_run.specs.declared.status.Status.{Status}
-use Rattle.cs_run.specs.declared.status.Status.TheVariants.{Done, NoMemory, Usage, ReadFault, WriteFault, DocumentFault, NetlistFault, Limit, NotBuilt}
+use Rattle.cs_run.specs.declared.status.Status.TheVariants.{Done, NoMemory, Usage, ReadFault, WriteFault, DocumentFault, NetlistFault, Limit, StimulusFault, NotBuilt}
 use Rattle.cs_run.specs.declared.reply.NewFile.{NewFile}
 use Rattle.cs_run.specs.declared.reply.Reply.{Reply}
 use Rattle.cs_run.specs.declared.inputs.Stop.{Stop}
 use Rattle.cs_run.specs.declared.inputs.Stop.TheVariants.{OutOfMemory, Answered}
-use Rattle.cs_run.specs.Inputs.{RefusesLong, most_bytes}
+use Rattle.cs_run.specs.Answers.{AnswersFiles, FilesHave, FirstTooLong, HasReason, IsDone, ReadUpTo, most_bytes, reads_of, writes_of}
+use Rattle.cs_run.specs.declared.reason.Reason.{Reason}
+use Rattle.cs_run.specs.Reasons.{line_of, status_of}
 use Rattle.cs_run.specs.Replies.{refusal}
-use Rattle.cs_run.specs.Slow.{AnswersSlow}
 
 -- a store and a sink at one moment
 pub record World : Type 0 where
@@ -29,18 +31,6 @@ world store sink = record { store = store; sink = sink }
 
 -- ---- reading
 
--- the files that a command reads
-abbrev pub reads_of : Command → List (List ℕ)
-reads_of (Slow words) = words.input ∷ []
-
--- the files that a command may write
-abbrev pub writes_of : Command → List (List ℕ)
-writes_of (Slow words) = words.output ∷ []
-
--- a command's reply to what its files hold
-abbrev pub AnswersFiles : Command → Option Files → Reply → Type 0
-AnswersFiles (Slow words) files reply = AnswersSlow words files reply
-
 -- the reading of a file failed, and nothing else happened to the store
 abbrev pub NotesFailure : StoreState → StoreState → List ℕ → Type 0
 NotesFailure old new name = new ≡ record old { failed = old.failed ++ name ∷ [] }
@@ -50,15 +40,48 @@ pub record LeavesFiles (old new : StoreState) : Type 0 where
   pub files : new.files ≡ old.files
   pub faults : new.faults ≡ old.faults
 
--- the refusal of a file that can't be read
+-- the refusals of a file that can't be read, of one that is too long, and of words
 abbrev pub unread : List ℕ → Reply
 unread name = refusal ReadFault (fault_line (CannotRead name))
 
--- one of the files couldn't be read, or all were read and are answered
+abbrev pub overlong : List ℕ → Reply
+overlong name = refusal Limit (fault_line (FileTooLong name))
+
+abbrev pub words_fault : WordError → Fault
+words_fault NoCommand = NoCommandFault
+words_fault (BadWords command) = WordsOf command
+words_fault NoMemoryForWords = NoMemoryFault
+
+abbrev pub misused : WordError → Reply
+misused error = refusal Usage (fault_line (words_fault error))
+
+-- one of these files couldn't be read, and those before it were
+abbrev pub StopsReading : List (List ℕ) → StoreState → StoreState → Reply → Type 0
+StopsReading names old new reply = (name : List ℕ) × ReadUpTo old.files names name × NotesFailure old new name × (reply ≡ unread name)
+
+-- one of these files is too long, and those before it are not
+abbrev pub StopsAtLength : List (List ℕ) → StoreState → StoreState → Reply → Type 0
+StopsAtLength names old new reply = (new ≡ old) × ((name : List ℕ) × FirstTooLong old.files names name × (reply ≡ overlong name))
+
+-- a file is read, or its reading is the end of the command
+abbrev pub ReadsInput : StoreState → StoreState → List ℕ → Result (Vec ℕ Global) Stop → Type 0
+ReadsInput old new name (Ok bytes) =
+    (new ≡ old) × FileHas old.files name (λ found. found ≡ bytes.items) × (length bytes.items ≤ most_bytes)
+ReadsInput old new name (Err (Answered reply)) =
+    (NotesFailure old new name × (reply ≡ unread name))
+    ⊎ ((new ≡ old) × FileHas old.files name (λ bytes. most_bytes < length bytes) × (reply ≡ overlong name))
+ReadsInput old new name (Err OutOfMemory) = LeavesFiles old new
+
+-- the files are read in order, or the reading of one is the end of the command
+abbrev pub ReadsInputs : StoreState → StoreState → List (List ℕ) → Result (List (List ℕ)) Stop → Type 0
+ReadsInputs old new names (Ok inputs) = (new ≡ old) × FilesHave old.files names inputs
+ReadsInputs old new names (Err (Answered reply)) = StopsReading names old new reply ⊎ StopsAtLength names old new reply
+ReadsInputs old new names (Err OutOfMemory) = LeavesFiles old new
+
+-- one of the files couldn't be read, or all that are asked for were read and are answered
 abbrev pub HasReply : Command → StoreState → StoreState → Reply → Type 0
 HasReply command old new reply =
-    ((name : List ℕ) × Contains (reads_of command) name × NotesFailure old new name × (reply ≡ unread name))
-    ⊎ ((new ≡ old) × AnswersFiles command old.files reply)
+    StopsReading (reads_of command) old new reply ⊎ ((new ≡ old) × AnswersFiles command old.files reply)
 
 -- how reading and answering the files of a command ends
 abbrev pub HasOutcome : Command → StoreState → StoreState → Result Reply Stop → Type 0
@@ -66,22 +89,10 @@ HasOutcome command old new (Ok reply) = HasReply command old new reply
 HasOutcome command old new (Err (Answered reply)) = HasReply command old new reply
 HasOutcome command old new (Err OutOfMemory) = LeavesFiles old new
 
--- a file is read, or its reading is the end of the command
-abbrev pub ReadsInput : StoreState → StoreState → List ℕ → Result (Vec ℕ Global) Stop → Type 0
-ReadsInput old new name (Ok bytes) =
-    (new ≡ old) × FileHas old.files name (λ found. found ≡ bytes.items) × (length bytes.items ≤ most_bytes)
-ReadsInput old new name (Err (Answered reply)) =
-    (NotesFailure old new name × (reply ≡ unread name)) ⊎ ((new ≡ old) × RefusesLong old.files name reply)
-ReadsInput old new name (Err OutOfMemory) = LeavesFiles old new
-
--- the refusal of words that say no command
-abbrev pub misused : Reply
-misused = refusal Usage (fault_line (WordsOf (codes "slow")))
-
 -- the words are refused, or their command has this reply
 abbrev pub RepliesTo : List (List ℕ) → StoreState → StoreState → Reply → Type 0
 RepliesTo words old new reply =
-    MatchOption (command_of words) ((new ≡ old) × (reply ≡ misused)) (λ command. HasReply command old new reply)
+    MatchResult (command_of words) (λ command. HasReply command old new reply) (λ error. (new ≡ old) × (reply ≡ misused error))
 
 -- how a run ends before anything is written
 abbrev pub HasOutcomeOf : List (List ℕ) → StoreState → StoreState → Result Reply Stop → Type 0
@@ -127,6 +138,7 @@ status_unput WriteFault = WriteFault
 status_unput DocumentFault = DocumentFault
 status_unput NetlistFault = NetlistFault
 status_unput Limit = Limit
+status_unput StimulusFault = StimulusFault
 status_unput NotBuilt = NotBuilt
 
 -- the text was put, or the sink failed after a prefix of it
@@ -153,54 +165,69 @@ pub record RanOutOfMemory (old new : World) : Type 0 where
   pub store : LeavesFiles old.store new.store
   pub sink : PutsSome old.sink new.sink (fault_line NoMemoryFault)
 
+-- the names that words mean by their command
+abbrev pub names_by : (Command → List (List ℕ)) → Result Command WordError → List (List ℕ)
+names_by names (Ok command) = names command
+names_by names (Err error) = []
+
 -- the files that the words name to be read, and to be written
 abbrev pub read_names : List (List ℕ) → List (List ℕ)
-read_names words = option_map_or reads_of (command_of words) []
+read_names words = names_by reads_of (command_of words)
 
 abbrev pub write_names : List (List ℕ) → List (List ℕ)
-write_names words = option_map_or writes_of (command_of words) []
+write_names words = names_by writes_of (command_of words)
 
--- a file couldn't be read: nothing else happened to the store, and the line names it
+-- a file of the command couldn't be read: those before it were, nothing else happened to the store, and the line names it
 pub record CouldNotRead (words : List (List ℕ)) (old new : World) : Type 0 where
   pub name : List ℕ
-  pub among : Contains (read_names words) name
+  pub reached : ReadUpTo old.store.files (read_names words) name
   pub store : NotesFailure old.store new.store name
   pub sink : PutsSome old.sink new.sink (fault_line (CannotRead name))
 
 -- the words are refused
 pub record RefusedWords (words : List (List ℕ)) (old new : World) : Type 0 where
-  pub none : command_of words ≡ None
+  pub error : WordError
+  pub says : command_of words ≡ Err error
   pub store : new.store ≡ old.store
-  pub sink : PutsSome old.sink new.sink (fault_line (WordsOf (codes "slow")))
+  pub sink : PutsSome old.sink new.sink (fault_line (words_fault error))
 
--- a command is answered: its files were read, and its reply was carried out whole, up to the put of a fault's line
-pub record Finished (words : List (List ℕ)) (old new : World) (status : Status) : Type 0 where
+-- a command is refused with this status, for a reason that its files have, whose line is put; the store stays
+pub record RefusedInput (words : List (List ℕ)) (old new : World) (status : Status) : Type 0 where
+  pub command : Command
+  pub reason : Reason
+  pub says : command_of words ≡ Ok command
+  pub has : HasReason command old.store.files reason
+  pub to : status_of reason ≡ status
+  pub store : new.store ≡ old.store
+  pub sink : PutsSome old.sink new.sink (line_of reason)
+
+-- a command is done: its files are written, and its text is put
+pub record Finished (words : List (List ℕ)) (old new : World) : Type 0 where
   pub command : Command
   pub reply : Reply
-  pub says : command_of words ≡ Some command
-  pub answers : AnswersFiles command old.store.files reply
-  pub to : reply.status ≡ status
+  pub says : command_of words ≡ Ok command
+  pub done : IsDone command old.store.files reply
   pub store : new.store ≡ after_writes old.store reply.writes
-  pub sink : PutsText reply old.sink new.sink status
+  pub sink : Puts old.sink new.sink reply.text
 
--- a command is answered, and a write of its reply or the put behind them failed
+-- a command is done but for a write that failed, or for the put behind the writes
 pub record CouldNotWrite (words : List (List ℕ)) (old new : World) : Type 0 where
   pub command : Command
   pub reply : Reply
-  pub says : command_of words ≡ Some command
-  pub answers : AnswersFiles command old.store.files reply
-  pub to : reply.status ≡ Done
+  pub says : command_of words ≡ Ok command
+  pub done : IsDone command old.store.files reply
   pub stops : StopsAtWrite reply.writes old new
       ⊎ ((new.store ≡ after_writes old.store reply.writes) × StopsPutting old.sink new.sink reply.text)
 
 -- what a run leaves at each status
 abbrev pub Ran : List (List ℕ) → World → World → Status → Type 0
-Ran words old new Done = Finished words old new Done
+Ran words old new Done = Finished words old new
 Ran words old new NoMemory = RanOutOfMemory old new
 Ran words old new Usage = RefusedWords words old new
 Ran words old new ReadFault = CouldNotRead words old new
 Ran words old new WriteFault = CouldNotWrite words old new
-Ran words old new DocumentFault = Finished words old new DocumentFault
-Ran words old new NetlistFault = Finished words old new NetlistFault
-Ran words old new Limit = Finished words old new Limit
-Ran words old new NotBuilt = Finished words old new NotBuilt
+Ran words old new DocumentFault = RefusedInput words old new DocumentFault
+Ran words old new NetlistFault = RefusedInput words old new NetlistFault
+Ran words old new Limit = RefusedInput words old new Limit
+Ran words old new StimulusFault = RefusedInput words old new StimulusFault
+Ran words old new NotBuilt = RefusedInput words old new NotBuilt

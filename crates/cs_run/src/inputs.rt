@@ -1,15 +1,14 @@
-// Reads the files of a command, and refuses.
-ghost use Rattle.std.specs.Prelude.{◌≡◌, IfOk};
-ghost use Rattle.cs_report.specs.FaultLines.{fault_line};
-ghost use Rattle.cs_run.specs.Replies.{refusal};
-ghost use Rattle.cs_run.specs.Outcomes.{ReadsInput};
+// Reads the files of a command.
+ghost use Rattle.std.specs.Prelude.{◌≡◌};
+ghost use Rattle.cs_run.specs.Outcomes.{ReadsInput, ReadsInputs};
 ghost use Rattle.cs_run.specs.declared.inputs.Stop.TheVariants.{OutOfMemory};
 
-use crate::reply::Reply;
+use crate::reason::{Reason, refuse_for};
+use crate::reply::{Reply, refuse};
 use crate::status::Status;
 use cs_base::{Sequence, Text};
 use cs_io::{Store, StoreError};
-use cs_report::{Fault, fault_text};
+use cs_report::Fault;
 use std::alloc::{AllocError, AllocFailed, Global};
 
 const MOST_BYTES: u64 = 67_108_864;
@@ -49,22 +48,26 @@ pub fn read_input<S: Store>(alloc: Global, name: &Text, store: &mut S) -> Result
             Err(Stop::Answered(reply))
         }
         Err(StoreError::TooLong { .. }) => {
-            let fault = Fault::FileTooLong(name.copy(alloc)?);
-            let reply = refuse(alloc, Status::Limit, &fault)?;
+            let reason = Reason::TooLong(name.copy(alloc)?);
+            let reply = refuse_for(alloc, reason)?;
             Err(Stop::Answered(reply))
         }
         Err(StoreError::NoMemory) => Err(Stop::OutOfMemory),
     }
 }
 
-/// A status and the line of its fault, with nothing written.
-pub fn refuse(alloc: Global, status: Status, fault: &Fault) -> Result<Reply, AllocError>
-    ensures { IfOk result (λ reply. reply ≡ refusal status (fault_line fault.now)) }
+/// The bytes of the files of a command, read in order up to the first that ends it.
+pub fn read_inputs<S: Store>(
+    alloc: Global,
+    names: &[Text],
+    store: &mut S,
+) -> Result<Sequence<Sequence<u8>>, Stop>
+    ensures { ReadsInputs (S.state store.old) (S.state store.new) names.now result }
 {
-    let line = fault_text(alloc, fault)?;
-    Ok(Reply {
-        status,
-        writes: Sequence::new(alloc),
-        text: Sequence::from_vec(line),
-    })
+    let mut inputs = Sequence::new(alloc);
+    for name in names {
+        let bytes = read_input(alloc, name, store)?;
+        inputs.push(Sequence::from_vec(bytes))?;
+    }
+    Ok(inputs)
 }

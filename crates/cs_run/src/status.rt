@@ -12,6 +12,7 @@ pub enum Status {
     DocumentFault = 5,
     NetlistFault = 6,
     Limit = 8,
+    StimulusFault = 11,
     NotBuilt = 99,
 }
 

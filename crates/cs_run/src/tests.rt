@@ -58,7 +58,7 @@ const GATED_LOOP: &str =
     \"r\":{\"type\":\"$_DFF_P_\",\"connections\":{\"C\":[2],\"D\":[5],\"Q\":[4]}}},\
     \"netnames\":{\"q\":{\"bits\":[4],\"attributes\":{\"init\":\"1\"}}}}}}";
 
-fn texts(alloc: Global, words: &[&str]) -> Result<Vec<String>, AllocError> {
+pub(crate) fn texts(alloc: Global, words: &[&str]) -> Result<Vec<String>, AllocError> {
     let mut texts = Vec::new(alloc);
     for word in words {
         texts.push(String::from_str(alloc, word)?)?;

@@ -1,18 +1,20 @@
 -- The command that words say.
-use Rattle.std.specs.Prelude.{ℕ, Bool, not, ◌&&◌, ◌≡◌, ⊤, List, [], ◌∷◌, map, Option, Some, None, Result, Ok, Err, if◌then◌else◌, String, codes}
+use Rattle.std.specs.Prelude.{ℕ, ◌<◌, ◌≤◌, Bool, not, ◌&&◌, ◌≡◌, ⊤, nat_le, List, [], ◌∷◌, length, map, Option, Some, None, Result, Ok, Err, if◌then◌else◌, option_and_then, String, codes}
 use Rattle.std.specs.String.{string_bytes}
 use Rattle.std.specs.Str.{bytes_eq}
 use Rattle.std.specs.Option.{option_map}
 use Rattle.std.specs.declared.alloc.Global.{Global}
 use Rattle.cs_words.specs.declared.command.Command.{Command}
-use Rattle.cs_words.specs.declared.command.Command.TheVariants.{Slow}
+use Rattle.cs_words.specs.declared.command.Command.TheVariants.{Slow, Sim, Mix, Part}
 use Rattle.cs_words.specs.declared.read.WordError.{WordError}
-use Rattle.cs_words.specs.declared.read.WordError.TheVariants.{BadWords, NoMemory}
-use Rattle.cs_words.specs.Numbers.{contexts_of}
+use Rattle.cs_words.specs.declared.read.WordError.TheVariants.{NoCommand, BadWords, NoMemory}
+use Rattle.cs_words.specs.Numbers.{contexts_of, context_of}
 
 -- the words as their bytes
 abbrev pub texts : List (String Global) → List (List ℕ)
 texts words = map (λ word. string_bytes word) words
+
+-- ---- the words behind a command's name
 
 -- the flag is `-c`, and OUT and CERT are different words
 abbrev pub are_of_slow : List ℕ → List ℕ → List ℕ → Bool
@@ -27,13 +29,54 @@ slow_of (input ∷ output ∷ cert ∷ delays ∷ flag ∷ count ∷ []) =
     else None
 slow_of _ = None
 
--- the command of the words after the program's name, if they say one
-abbrev pub command_of : List (List ℕ) → Option Command
-command_of [] = None
-command_of (first ∷ words) = if bytes_eq first (codes "slow") then slow_of words else None
+abbrev pub sim_of : List (List ℕ) → Option Command
+sim_of (net ∷ stim ∷ []) = Some (Sim (record { net = net; stim = stim }))
+sim_of _ = None
 
--- what reading the words answers: their command, or that there is none, unless memory ran out
-abbrev pub ReadsAs : Option Command → Result Command WordError → Type 0
-ReadsAs said (Ok command) = said ≡ Some command
-ReadsAs said (Err BadWords) = said ≡ None
-ReadsAs said (Err NoMemory) = ⊤
+-- there are 1 to 16 streams
+abbrev pub are_streams : List (List ℕ) → Bool
+are_streams streams = nat_le 1 (length streams) && nat_le (length streams) 16
+
+abbrev pub mix_of : List (List ℕ) → Option Command
+mix_of (output ∷ streams) = if are_streams streams then Some (Mix (record { output = output; streams = streams })) else None
+mix_of _ = None
+
+-- the file and its part of a number of contexts
+abbrev pub part_in : ℕ → List ℕ → List ℕ → Option Command
+part_in contexts place file =
+    option_map (λ k. Part (record { k = k; contexts = contexts; file = file })) (context_of contexts place)
+
+abbrev pub part_of : List (List ℕ) → Option Command
+part_of (place ∷ count ∷ file ∷ []) = option_and_then (λ contexts. part_in contexts place file) (contexts_of count)
+part_of _ = None
+
+-- ---- all words
+
+-- the command that is said behind its name, or that the words have another form
+abbrev pub said_by : List ℕ → Option Command → Result Command WordError
+said_by name (Some command) = Ok command
+said_by name None = Err (BadWords name)
+
+-- the command of the words after the program's name, or why there is none; that is never want of memory
+abbrev pub command_of : List (List ℕ) → Result Command WordError
+command_of [] = Err NoCommand
+command_of (name ∷ words) =
+    if bytes_eq name (codes "slow") then said_by name (slow_of words)
+    else (if bytes_eq name (codes "sim") then said_by name (sim_of words)
+    else (if bytes_eq name (codes "mix") then said_by name (mix_of words)
+    else (if bytes_eq name (codes "part") then said_by name (part_of words)
+    else Err NoCommand)))
+
+-- what reading the words answers: just what they say, unless memory ran out
+abbrev pub Reads : Result Command WordError → Result Command WordError → Type 0
+Reads said (Ok command) = said ≡ Ok command
+Reads said (Err NoCommand) = said ≡ Err NoCommand
+Reads said (Err (BadWords command)) = said ≡ Err (BadWords command)
+Reads said (Err NoMemory) = ⊤
+
+-- `mix` has 1 to 16 streams, and `part` a place below the number of its parts
+abbrev pub IsWithin : Command → Type 0
+IsWithin (Slow words) = ⊤
+IsWithin (Sim words) = ⊤
+IsWithin (Mix words) = (1 ≤ length words.streams) × (length words.streams ≤ 16)
+IsWithin (Part words) = words.k < words.contexts

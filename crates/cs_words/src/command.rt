@@ -1,10 +1,13 @@
 // The commands of the program.
-use cs_base::{Contexts, Text};
+use cs_base::{Contexts, Sequence, Text};
 
 /// A command, with what its words name.
 #[derive(Debug, Drop)]
 pub enum Command {
     Slow(SlowWords),
+    Sim(SimWords),
+    Mix(MixWords),
+    Part(PartWords),
 }
 
 /// `slow IN OUT CERT DELAYS -c C`
@@ -15,4 +18,26 @@ pub struct SlowWords {
     pub cert: Text,
     pub delays: Text,
     pub contexts: Contexts,
+}
+
+/// `sim NET STIM`
+#[derive(Debug, Drop)]
+pub struct SimWords {
+    pub net: Text,
+    pub stim: Text,
+}
+
+/// `mix OUT STREAMS`, with 1 to 16 streams
+#[derive(Debug, Drop)]
+pub struct MixWords {
+    pub output: Text,
+    pub streams: Sequence<Text>,
+}
+
+/// `part K C FILE`, with K below C
+#[derive(Debug, Drop)]
+pub struct PartWords {
+    pub k: u32,
+    pub contexts: Contexts,
+    pub file: Text,
 }

@@ -2,10 +2,11 @@
 #![tactic(auto)]
 
 mod command;
+mod forms;
 mod number;
 mod read;
 
-pub use command::{Command, SlowWords};
+pub use command::{Command, MixWords, PartWords, SimWords, SlowWords};
 pub use read::{WordError, read_words};
 
 #[cfg(test)]

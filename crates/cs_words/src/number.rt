@@ -1,6 +1,6 @@
 // Numbers among the words: 1 to 20 decimal digits, where zeros may lead.
 ghost use Rattle.std.specs.Prelude.{◌≡◌, ◌<◌, ◌≤◌, ◌^◌, length, IsTrue};
-ghost use Rattle.cs_words.specs.Numbers.{number_of, value_of, are_digits, contexts_of};
+ghost use Rattle.cs_words.specs.Numbers.{number_of, value_of, are_digits, contexts_of, context_of};
 
 use cs_base::Contexts;
 
@@ -43,4 +43,15 @@ pub fn read_contexts(word: &[u8]) -> Option<Contexts>
         return None;
     }
     Contexts::new(number as u64)
+}
+
+/// The place below the number of contexts that a word stands for, and None where it stands for none.
+pub(crate) fn read_context(word: &[u8], contexts: Contexts) -> Option<u32>
+    ensures { result ≡ context_of contexts word.now }
+{
+    let number = read_number(word)?;
+    if number >= u128::from(contexts.get()) {
+        return None;
+    }
+    Some(number as u32)
 }

@@ -1,18 +1,21 @@
 // Reads the words after the program's name.
 ghost use Rattle.std.specs.Prelude.{◌≡◌, IfOk};
-ghost use Rattle.cs_words.specs.Commands.{texts, command_of, slow_of, ReadsAs};
+ghost use Rattle.std.specs.Option.{ForSome};
+ghost use Rattle.cs_words.specs.Commands.{texts, command_of, said_by, IsWithin, Reads};
 ghost use Rattle.cs_words.specs.declared.read.WordError.TheVariants.{NoMemory};
 
-use crate::command::{Command, SlowWords};
-use crate::number::read_contexts;
-use cs_base::{Contexts, Text};
+use crate::command::Command;
+use crate::forms::{read_mix, read_part, read_sim, read_slow};
+use cs_base::Text;
 use std::alloc::{AllocError, Global};
 
 /// Why the words are no command.
-#[derive(Clone, Copy, Debug, PartialEq, Eq)]
+#[derive(Debug, Drop)]
 pub enum WordError {
-    /// They have no command's form.
-    BadWords,
+    /// There is no first word, or it names no command.
+    NoCommand,
+    /// The words behind the name of this command have another form than its own.
+    BadWords { command: Text },
     NoMemory,
 }
 
@@ -24,64 +27,44 @@ impl From<AllocError> for WordError {
     }
 }
 
-/// The command that the words say. `BadWords` comes exactly where they are not
-/// `slow IN OUT CERT DELAYS -c C` in this order, with different words OUT and CERT and C from 1 to 16.
+/// The command that the words say. `NoCommand` comes exactly where the first word names none of `slow`, `sim`, `mix` and
+/// `part`, or there is none. `BadWords` comes exactly where it names one and the others are not
+/// `IN OUT CERT DELAYS -c C` of `slow`, with different words OUT and CERT and C from 1 to 16; `NET STIM` of `sim`;
+/// `OUT STREAMS` of `mix`, with 1 to 16 streams; or `K C FILE` of `part`, with C from 1 to 16 and K below C.
+/// A number is 1 to 20 decimal digits.
 pub fn read_words(alloc: Global, words: &[String]) -> Result<Command, WordError>
-    ensures { ReadsAs (command_of (texts words.now)) result }
+    ensures said { Reads (command_of (texts words.now)) result }
+    ensures within { IfOk result IsWithin }
 {
-    let [command, others @ ..] = words else {
-        return Err(WordError::BadWords);
+    let [first, others @ ..] = words else {
+        return Err(WordError::NoCommand);
     };
-    if command.as_str() == "slow" {
-        return read_slow(alloc, others);
+    let name = first.as_str();
+    if name == "slow" {
+        return said_by(alloc, name, read_slow(alloc, others)?);
     }
-    Err(WordError::BadWords)
+    if name == "sim" {
+        return said_by(alloc, name, read_sim(alloc, others)?);
+    }
+    if name == "mix" {
+        return said_by(alloc, name, read_mix(alloc, others)?);
+    }
+    if name == "part" {
+        return said_by(alloc, name, read_part(alloc, others)?);
+    }
+    Err(WordError::NoCommand)
 }
 
-fn read_slow(alloc: Global, words: &[String]) -> Result<Command, WordError>
-    ensures { ReadsAs (slow_of (texts words.now)) result }
+// The command that words say behind this name, or that they say none.
+fn said_by(alloc: Global, name: &str, said: Option<Command>) -> Result<Command, WordError>
+    requires { ForSome said IsWithin }
+    ensures said { Reads (said_by name.now said) result }
+    ensures within { IfOk result IsWithin }
 {
-    let [input, output, cert, delays, flag, count] = words else {
-        return Err(WordError::BadWords);
-    };
-    if flag.as_str() != "-c" || output.as_str() == cert.as_str() {
-        return Err(WordError::BadWords);
+    match said {
+        Some(command) => Ok(command),
+        None => Err(WordError::BadWords {
+            command: Text::from_str(alloc, name)?,
+        }),
     }
-    let Some(contexts) = read_contexts(count.as_bytes()) else {
-        return Err(WordError::BadWords);
-    };
-    let words = slow_words(
-        alloc,
-        input.as_str(),
-        output.as_str(),
-        cert.as_str(),
-        delays.as_str(),
-        contexts,
-    )?;
-    Ok(Command::Slow(words))
-}
-
-fn slow_words(
-    alloc: Global,
-    input: &str,
-    output: &str,
-    cert: &str,
-    delays: &str,
-    contexts: Contexts,
-) -> Result<SlowWords, AllocError>
-    ensures { IfOk result (λ w. w ≡ record {
-      input = input.now;
-      output = output.now;
-      cert = cert.now;
-      delays = delays.now;
-      contexts = contexts;
-    }) }
-{
-    Ok(SlowWords {
-        input: Text::from_str(alloc, input)?,
-        output: Text::from_str(alloc, output)?,
-        cert: Text::from_str(alloc, cert)?,
-        delays: Text::from_str(alloc, delays)?,
-        contexts,
-    })
 }

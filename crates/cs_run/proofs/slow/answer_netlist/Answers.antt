@@ -1,54 +1,46 @@
-use Rattle.std.proofs.Common.{◌∙◌, ap, inl, inr, refl}
+use Rattle.std.proofs.Common.{rules, ◌∙◌, ap, inl, inr, refl, subst}
 use Rattle.cs_json.specs.Printed.{printed}
-use Rattle.cs_json.specs.Shape.{document}
-use Rattle.cs_multiply.specs.declared.error.MultiplyError.TheVariants.{Cell, PortBits}
-use Rattle.cs_run.specs.Replies.{refusal}
-use Rattle.cs_run.specs.Slow.{done, line_of, not_built, status_of}
-use Rattle.cs_run.proofs.BytesLemmas.{bytes_isolate, if_answers, reason_of}
+use Rattle.cs_multiply.specs.declared.error.MultiplyError.TheVariants.{NoMemory}
+use Rattle.cs_multiply.specs.Written.{multiply_refusal}
+use Rattle.cs_run.specs.Bytes.{BytesIsolate}
+use Rattle.cs_run.specs.declared.reason.Reason.TheVariants.{NotHandled}
+use Rattle.cs_run.specs.Replies.{writing}
+use Rattle.cs_run.specs.Slow.{AnswersSlow, BuildsIsolate, IsBuilt, MakesSlow, RefusesSlow}
+use Rattle.cs_run.proofs.BytesLemmas.{bytes_isolate}
+use Rattle.cs_run.proofs.ReasonLemmas.{one_built}
+use Rattle.cs_run.proofs.ReplyLemmas.{if_answers, if_refuses, the_error}
 use Rattle.cs_run.proofs.slow.answer_netlist.Goals as goal
 
 pub returns-in_ok-text-in-Ok : goal.returns-in_ok-text-in-Ok
 returns-in_ok-text-in-Ok c =
     let words = c.args.words.now in
     let bytes = c.args.bytes.now in
-    let netlist = c.from_vec.result in
-    if_answers words bytes c.written.result (done words netlist)
-    (inl (record {
-      netlist = netlist;
-      built = record {
-        net = c.args.net.now;
-        of_read = c.requires;
-        plain = c.in-Ok.ensures.refused_comes;
-        is = c.from_vec.ensures ∙ c.in_ok-text-in-Ok.ensures.text ∙ ap printed c.in-Ok.ensures.written;
-      };
-      isolates = bytes_isolate words.contexts bytes netlist c.args.net.now c.in-Ok.document c.requires c.in-Ok.ensures.isolates
-          (ap document c.from_vec.ensures ∙ c.in_ok-text-in-Ok.ensures.reads_back);
-      is = refl;
-    }))
-    c.written.ensures
+    let netlist = c.in_ok-text-in-Ok.text.items in
+    let built : IsBuilt words.contexts bytes netlist = record {
+      net = c.args.net.now;
+      of_read = c.requires;
+      plain = c.in-Ok.ensures.refused_comes;
+      is = c.in_ok-text-in-Ok.ensures.text ∙ ap printed c.in-Ok.ensures.written;
+    } in
+    if_answers (AnswersSlow words bytes) c.writing.result (writing words.output netlist c.new.result.items)
+    (inl (
+      record { netlist = netlist; built = built; is = ap (λ line. writing words.output netlist line) c.new.ensures.items },
+      λ other also. subst (λ n. BytesIsolate words.contexts bytes n) (one_built words.contexts bytes netlist other built also)
+          (bytes_isolate words.contexts bytes netlist c.args.net.now c.in-Ok.document c.requires c.in-Ok.ensures.isolates
+          c.in_ok-text-in-Ok.ensures.reads_back),
+    ))
+    c.writing.ensures
 
-pub returns-in-Err-Cell : goal.returns-in-Err-Cell
-returns-in-Err-Cell c =
-    let words = c.args.words.now in
+pub returns-in-Err : goal.returns-in-Err
+returns-in-Err c =
     let bytes = c.args.bytes.now in
-    let reason = not_built (Cell c.in-Err-Cell.name) in
-    if_answers words bytes c.refuse.result (refusal (status_of reason) (line_of words.input reason))
+    let error = c.in-Err.error in
+    if_refuses (λ r. MakesSlow c.args.words.now bytes r × BuildsIsolate c.args.words.now.contexts bytes) (RefusesSlow bytes) c.refuse_for.result (NotHandled error)
     (inr (record {
-      reason = reason;
-      has = (c.args.net.now, c.requires, reason_of c.args.net.now c.in-Err-Cell.field-0 (Cell c.in-Err-Cell.name) c.in-Err-Cell.ensures.refuses c.in-Err-Cell.field-0-is (λ is. absurd (cc)));
+      net = c.args.net.now;
+      error = error;
+      of_read = c.requires;
+      refuses = the_error NoMemory (multiply_refusal c.args.net.now) error error c.in-Err.ensures.refuses refl (λ is. search rules);
       is = refl;
     }))
-    c.refuse.ensures
-
-pub returns-in-Err-PortBits : goal.returns-in-Err-PortBits
-returns-in-Err-PortBits c =
-    let words = c.args.words.now in
-    let bytes = c.args.bytes.now in
-    let reason = not_built PortBits in
-    if_answers words bytes c.refuse-in-Err-PortBits.result (refusal (status_of reason) (line_of words.input reason))
-    (inr (record {
-      reason = reason;
-      has = (c.args.net.now, c.requires, reason_of c.args.net.now c.in-Err-PortBits.field-0 PortBits c.in-Err-PortBits.ensures.refuses c.in-Err-PortBits.field-0-is (λ is. absurd (cc)));
-      is = refl;
-    }))
-    c.refuse-in-Err-PortBits.ensures
+    c.refuse_for.ensures

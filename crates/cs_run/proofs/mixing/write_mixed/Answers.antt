@@ -1,0 +1,28 @@
+use Rattle.std.proofs.Common.{◌∙◌, ap, inl, sym}
+use Rattle.cs_report.specs.declared.fault.Fault.TheVariants.{CannotWrite}
+use Rattle.cs_report.specs.FaultLines.{fault_line}
+use Rattle.cs_stream.specs.Printing.{response_text}
+use Rattle.cs_run.specs.Mix.{AnswersMix}
+use Rattle.cs_run.specs.Replies.{writing}
+use Rattle.cs_run.proofs.ReplyLemmas.{if_answers}
+use Rattle.cs_run.proofs.RowLemmas.{gives_back, own_faultless}
+use Rattle.cs_run.proofs.mixing.write_mixed.Goals as goal
+
+pub returns : goal.returns
+returns c =
+    let words = c.args.words.now in
+    let streams = c.args.streams.now in
+    let rows = c.args.rows.now in
+    let text = c.in_ok-text.text.items in
+    let law = c.printed_reads_back.ensures in
+    if_answers (AnswersMix words streams) c.writing.result (writing words.output text c.in_ok-line.line.items)
+    (inl (
+      record {
+        text = text;
+        mixed = record { faultless = c.requires.faultless; is = c.in_ok-text.ensures.text ∙ ap response_text c.requires.are };
+        is = ap (λ line. writing words.output text line) (c.in_ok-line.ensures ∙ ap (λ name. fault_line (CannotWrite name)) c.in_ok-copy.ensures);
+      },
+      λ other mixed. gives_back streams rows other c.requires (mixed.is ∙ sym (ap response_text c.requires.are))
+          (own_faultless rows law.faultless law.width) law.rows,
+    ))
+    c.writing.ensures

@@ -1,0 +1,26 @@
+use Rattle.std.proofs.Common.{◌≡◌, List, inl, subst}
+use Rattle.cs_net.specs.Drivers.{own_start}
+use Rattle.cs_net.specs.Netlist.{state_of}
+use Rattle.cs_net.specs.Trace.{Answers, Row}
+use Rattle.cs_stream.specs.Rows.{rows_of}
+use Rattle.cs_run.proofs.simulation.put_response.Goals as goal
+
+pub returns : goal.returns
+returns c =
+    let net = c.args.net.now in
+    let from = state_of (own_start net) in
+    let rows = rows_of c.in_ok-answer.answer in
+    let OneAnswer : List Row → Type 0 = λ asked. (other : List Row) → Answers net from asked other → other ≡ rows in
+    inl (record {
+      text = c.in_ok-text.text.items;
+      responds = record {
+        net = net;
+        of_net = c.requires.of_net;
+        faultless = c.requires.rows.faultless;
+        rows = rows;
+        answers = subst (λ asked. Answers net from asked rows) c.requires.rows.are c.in_ok-answer.ensures.answers;
+        only = subst OneAnswer c.requires.rows.are c.in_ok-answer.ensures.only;
+        is = c.in_ok-text.ensures.text;
+      };
+      is = c.putting.ensures;
+    })
