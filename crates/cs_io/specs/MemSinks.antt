@@ -1,7 +1,7 @@
 -- The state of a sink in memory.
 use Rattle.std.specs.Prelude.{ℕ, ◌≡◌, ◌⊎◌, List, ◌++◌, take, Some, refl}
 use Rattle.std.specs.Coded.{Coded, code_by, coded×, coded_list, coded_ℕ}
-use Rattle.cs_io.specs.Memory.{Plan, plan_code}
+use Rattle.cs_io.specs.Memory.{Plan, is_planned, plan_code}
 use Rattle.cs_io.specs.MemStores.{one_more, next_plan}
 use Rattle.cs_io.specs.Sinks.{SinkState}
 
@@ -25,9 +25,9 @@ sink_code =
     (λ p. record { written = p.0; faults = p.1.0; plan = p.1.1.0; calls = p.1.1.1.0; dry = p.1.1.1.1 })
     (λ _. refl)
 
--- what a sink in memory tells: its bytes and its failed puts
+-- what a sink in memory tells; a put may fail otherwise only where some put is to fail
 abbrev pub sink_state : MemSinkState → SinkState
-sink_state s = record { written = Some s.written; faults = s.faults }
+sink_state s = record { written = Some s.written; faults = s.faults; dry = s.dry; is_fallible = is_planned s.plan }
 
 -- the planned prefix is put, or there is no memory and nothing is put
 abbrev pub HasCause : MemSinkState → MemSinkState → List ℕ → Type 0

@@ -5,7 +5,7 @@ use Rattle.std.specs.Coded.{Coded, code_by, coded×, coded_list, coded_ℕ}
 use Rattle.std.specs.declared.alloc.Global.{Global}
 use Rattle.cs_io.specs.declared.store.StoreError.{StoreError}
 use Rattle.cs_io.specs.declared.store.StoreError.TheVariants.{Failed, TooLong, NoMemory}
-use Rattle.cs_io.specs.Memory.{Plan, plan_code}
+use Rattle.cs_io.specs.Memory.{Plan, is_planned, plan_code}
 use Rattle.cs_io.specs.Stores.{Files, files_code, StoreState}
 
 -- what such a store keeps
@@ -29,9 +29,9 @@ state_code =
     (λ p. record { files = p.0; failed = p.1.0; faults = p.1.1.0; plan = p.1.1.1.0; calls = p.1.1.1.1.0; dry = p.1.1.1.1.1 })
     (λ _. refl)
 
--- what a store in memory tells: its files, the names whose reading failed, its failed writes
+-- what a store in memory tells; a call may fail otherwise only where some call is to fail
 abbrev pub store_state : MemState → StoreState
-store_state s = record { files = Some s.files; failed = s.failed; faults = s.faults }
+store_state s = record { files = Some s.files; failed = s.failed; faults = s.faults; dry = s.dry; is_fallible = is_planned s.plan }
 
 -- one more, up to the end of the type
 abbrev pub one_more : ℕ → ℕ
@@ -56,6 +56,13 @@ HasCause old new name bytes =
 -- a call was counted, and what is planned stays
 abbrev pub IsCounted : MemState → MemState → Type 0
 IsCounted old new = (new.calls ≡ one_more old.calls) × (new.plan ≡ old.plan)
+
+-- a read that was to fail fails, or finds no memory to note the name
+abbrev pub IsFailedRead : {T : Type 0} → Result T StoreError → Type 0
+IsFailedRead (Ok bytes) = ⊥
+IsFailedRead (Err Failed) = Unit {0}
+IsFailedRead (Err (TooLong limit)) = ⊥
+IsFailedRead (Err NoMemory) = Unit {0}
 
 -- a copy of at most so many bytes, or a refusal of more
 abbrev pub CopiesWithin : List ℕ → ℕ → Result (Vec ℕ Global) StoreError → Type 0

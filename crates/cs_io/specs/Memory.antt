@@ -1,5 +1,5 @@
 -- What the lists that a fake keeps stand for, the newest entry first.
-use Rattle.std.specs.Prelude.{ℕ, List, map, String}
+use Rattle.std.specs.Prelude.{ℕ, Bool, List, map, nat_lt, String}
 use Rattle.std.specs.Ordering.{nat_cmp}
 use Rattle.std.specs.FinMap as finmap
 use Rattle.std.specs.Coded.{Coded, coded_ℕ}
@@ -11,6 +11,10 @@ use Rattle.cs_io.specs.declared.memory.NamedFile.{NamedFile}
 -- which calls are to fail, by their number, and after how many bytes
 abbrev pub Plan : Type 0
 Plan = finmap.FinMap nat_cmp ℕ
+
+-- whether some call is to fail
+abbrev pub is_planned : Plan → Bool
+is_planned plan = nat_lt 0 (finmap.len plan)
 
 -- a plan is stored as its entries
 abbrev pub plan_code : Coded Plan

@@ -1,5 +1,5 @@
 // The files of the system, as a store. It tells nothing of what they hold.
-ghost use Rattle.std.specs.Prelude.{◌≡◌, ◌≤◌, [], None};
+ghost use Rattle.std.specs.Prelude.{◌≡◌, ◌≤◌, [], None, true};
 ghost use Rattle.cs_io.specs.Stores.{ReadGives};
 
 use crate::store::{Failed, Store, StoreError};
@@ -20,7 +20,7 @@ pub struct DirStore<'a, R: Files + AllocGlobal> {
 }
 
 impl<'a, R: Files + AllocGlobal> Model for DirStore<'a, R> {
-    ghost use Rattle.std.specs.Prelude.{None};
+    ghost use Rattle.std.specs.Prelude.{None, true};
     ghost use Rattle.cs_io.specs.Stores.{StoreState, store_code};
 
     ghost Value = { StoreState };
@@ -29,13 +29,13 @@ impl<'a, R: Files + AllocGlobal> Model for DirStore<'a, R> {
 
     ghost use Rattle.cs_io.specs.Memory.{names_of};
 
-    ghost view = { λ s. record { files = None; failed = names_of s.failed.items; faults = s.faults } };
+    ghost view = { λ s. record { files = None; failed = names_of s.failed.items; faults = s.faults; dry = 0; is_fallible = true } };
 }
 
 impl<'a, R: Files + AllocGlobal> DirStore<'a, R> {
     /// No call has failed yet.
     pub fn new(rt: &'a R) -> Self
-        ensures { result ≡ record { files = None; failed = []; faults = 0 } }
+        ensures { result ≡ record { files = None; failed = []; faults = 0; dry = 0; is_fallible = true } }
     {
         DirStore {
             rt,

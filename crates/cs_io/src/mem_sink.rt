@@ -1,6 +1,8 @@
 // A sink in memory, in which puts can be made to fail.
-ghost use Rattle.std.specs.Prelude.{◌≡◌, [], ◌++◌, OnOk, OnErr};
+ghost use Rattle.std.specs.Prelude.{◌≡◌, [], ◌++◌, OnOk, OnErr, IsErr, IsSome, None};
+ghost use Rattle.std.specs.Bool.{OnFalse};
 ghost use Rattle.std.specs.FinMap as map;
+ghost use Rattle.cs_io.specs.Memory.{is_planned};
 ghost use Rattle.cs_io.specs.Sinks.{appended, FailsToPut};
 ghost use Rattle.cs_io.specs.MemStores.{one_more, next_plan};
 ghost use Rattle.cs_io.specs.MemSinks.{sink_state, HasCause, IsCounted};
@@ -83,6 +85,7 @@ impl MemSink {
     fn next_call(&mut self) -> Option<usize>
         ensures counted { self.new ≡ record self.old { calls = one_more self.old.calls } }
         ensures planned { result ≡ next_plan self.old.plan self.old.calls }
+        ensures unplanned { OnFalse (is_planned self.old.plan) (result ≡ None) }
     {
         self.calls = self.calls.saturating_add(1);
         plan_at(&self.plan, self.calls)
@@ -103,6 +106,7 @@ impl Sink for MemSink {
 
         // A put fails only where it was to fail, or where there is no memory.
         ensures cause { OnErr result (HasCause self.old self.new bytes.now) }
+        ensures planned { IsSome (next_plan self.old.plan self.old.calls) → IsErr result }
         ensures counted { OnErr result (IsCounted self.old self.new) }
     {
         let planned = self.next_call();

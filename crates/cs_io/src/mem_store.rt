@@ -1,9 +1,11 @@
 // A store in memory, in which calls can be made to fail.
-ghost use Rattle.std.specs.Prelude.{◌≡◌, ◌⊎◌, [], OnOk, OnErr, IsErrOf, IsSome, None};
+ghost use Rattle.std.specs.Prelude.{◌≡◌, ◌⊎◌, [], OnOk, OnErr, IsErr, IsErrOf, IsSome, None};
+ghost use Rattle.std.specs.Bool.{OnFalse};
 ghost use Rattle.std.specs.Option.{option_copied};
 ghost use Rattle.std.specs.FinMap as map;
-ghost use Rattle.cs_io.specs.Stores.{ReadGives, failed_after, with_file, FailsToWrite};
-ghost use Rattle.cs_io.specs.MemStores.{store_state, one_more, next_plan, FailsToRead, HasCause, IsCounted, CopiesWithin};
+ghost use Rattle.cs_io.specs.Memory.{is_planned};
+ghost use Rattle.cs_io.specs.Stores.{ReadGives, IsMissing, failed_after, with_file, FailsToWrite};
+ghost use Rattle.cs_io.specs.MemStores.{store_state, one_more, next_plan, FailsToRead, IsFailedRead, HasCause, IsCounted, CopiesWithin};
 
 use crate::memory::{NamedFile, find, front, insert_file, plan_at, plan_call};
 use crate::store::{Failed, NoMemory, Store, StoreError};
@@ -99,6 +101,7 @@ impl MemStore {
     fn next_call(&mut self) -> Option<usize>
         ensures counted { self.new ≡ record self.old { calls = one_more self.old.calls } }
         ensures planned { result ≡ next_plan self.old.plan self.old.calls }
+        ensures unplanned { OnFalse (is_planned self.old.plan) (result ≡ None) }
     {
         self.calls = self.calls.saturating_add(1);
         plan_at(&self.plan, self.calls)
@@ -133,6 +136,9 @@ impl Store for MemStore {
         // A read fails only where it was to fail, or where there is no such file.
         ensures cause { IsErrOf result StoreError.Failed →
             (map.get self.old.files name.now ≡ None) ⊎ IsSome (next_plan self.old.plan self.old.calls) }
+        ensures planned { IsSome (next_plan self.old.plan self.old.calls) → IsFailedRead result }
+        ensures missing { OnFalse (store_state self.old).is_fallible
+            (IsErrOf result StoreError.Failed → IsMissing (store_state self.old).files name.now) }
     {
         let planned = self.next_call();
         match find(&self.files, name) {
@@ -152,6 +158,7 @@ impl Store for MemStore {
 
         // A write fails only where it was to fail, or where there is no memory.
         ensures cause { OnErr result (HasCause self.old self.new name.now bytes.now) }
+        ensures planned { IsSome (next_plan self.old.plan self.old.calls) → IsErr result }
         ensures counted { OnErr result (IsCounted self.old self.new) }
     {
         let planned = self.next_call();

@@ -1,5 +1,5 @@
 // Standard output, as a sink. It tells nothing of what was put.
-ghost use Rattle.std.specs.Prelude.{◌≡◌, None};
+ghost use Rattle.std.specs.Prelude.{◌≡◌, None, true};
 
 use crate::sink::Sink;
 use crate::store::Failed;
@@ -15,20 +15,20 @@ pub struct OutSink<'a, R: Print> {
 }
 
 impl<'a, R: Print> Model for OutSink<'a, R> {
-    ghost use Rattle.std.specs.Prelude.{None};
+    ghost use Rattle.std.specs.Prelude.{None, true};
     ghost use Rattle.cs_io.specs.Sinks.{SinkState, sink_code};
 
     ghost Value = { SinkState };
 
     ghost coded = { sink_code };
 
-    ghost view = { λ s. record { written = None; faults = s.faults } };
+    ghost view = { λ s. record { written = None; faults = s.faults; dry = 0; is_fallible = true } };
 }
 
 impl<'a, R: Print> OutSink<'a, R> {
     /// No call has failed yet.
     pub fn new(rt: &'a R) -> Self
-        ensures { result ≡ record { written = None; faults = 0 } }
+        ensures { result ≡ record { written = None; faults = 0; dry = 0; is_fallible = true } }
     {
         OutSink { rt, faults: 0 }
     }

@@ -6,7 +6,8 @@ use crate::store::Failed;
 
 /// A place where bytes are put one behind the other.
 pub trait Sink {
-    /// The bytes that were put, and how many puts failed.
+    /// The bytes that were put, how many puts failed and how many of them for want of memory, and whether a put may
+    /// fail for another cause.
     ghost state: { Self → SinkState };
 
     /// Puts these bytes behind the others.

@@ -1,5 +1,6 @@
 // A store of named files.
-ghost use Rattle.std.specs.Prelude.{◌≡◌, OnOk, OnErr};
+ghost use Rattle.std.specs.Prelude.{◌≡◌, OnOk, OnErr, IsErrOf};
+ghost use Rattle.std.specs.Bool.{OnFalse};
 
 use std::alloc::Global;
 
@@ -21,15 +22,19 @@ pub struct NoMemory;
 
 /// Named files that are read and written whole.
 pub trait Store {
-    ghost use Rattle.cs_io.specs.Stores.{StoreState, ReadGives, failed_after, with_file, FailsToWrite};
+    ghost use Rattle.cs_io.specs.Stores.{StoreState, ReadGives, IsMissing, failed_after, with_file, FailsToWrite};
 
-    /// The files, the names whose reading failed, and how many writes failed.
+    /// The files, the names whose reading failed, how many writes failed and how many of them for want of memory,
+    /// and whether a call may fail for another cause.
     ghost state: { Self → StoreState };
 
     /// The bytes of a file that has at most `most`. A name that isn't there can't be read.
     fn read(&mut self, alloc: Global, name: &str, most: u64) -> Result<Vec<u8>, StoreError>
         ensures gives { ReadGives (state self.old).files name.now most result }
-        ensures leaves { state self.new ≡ record (state self.old) { failed = failed_after (state self.old).failed name.now result } };
+        ensures leaves { state self.new ≡ record (state self.old) { failed = failed_after (state self.old).failed name.now result } }
+
+        // Where no other failure may come, only a name that isn't there can't be read.
+        ensures missing { OnFalse (state self.old).is_fallible (IsErrOf result StoreError.Failed → IsMissing (state self.old).files name.now) };
 
     /// Puts a file with these bytes in the place of what the name held.
     fn write(&mut self, name: &str, bytes: &[u8]) -> Result<(), Failed>

@@ -13,7 +13,8 @@ ghost use Rattle.cs_net.specs.Pins.{width_at};
 ghost use Rattle.cs_net.specs.Starts.{starts_of_cell};
 ghost use Rattle.cs_net.specs.Widths.{widths_by};
 ghost use Rattle.cs_base.specs.Parts.{part};
-ghost use Rattle.cs_net.specs.Netlist.{State, words_at};
+ghost use Rattle.cs_net.specs.Invariant.{HasOrder};
+ghost use Rattle.cs_net.specs.Netlist.{Net, State, words_at};
 ghost use Rattle.cs_net.specs.Trace.{Row, HasOneTrace};
 ghost use Rattle.cs_net.specs.Contexts.{no_images};
 ghost use Rattle.cs_net.specs.Isolates.{Isolates};
@@ -27,19 +28,15 @@ pub fn rows_of_a_part()
         → slice_index_or (part k c rows) i none ≡ slice_index_or rows (i * c + k) none }
 {}
 
-/// A netlist has exactly one trace over any rows, from any state.
-pub fn one_trace(net: &Netlist)
-    ensures { (from : State) (rows : List Row) → HasOneTrace net.now from rows }
-{
-    net.keeps();
-}
+/// A netlist whose bits have an order, as an accepted one's have, has exactly one trace over any rows, from any state.
+pub fn one_trace()
+    ensures { (net : Net) (from : State) (rows : List Row) → HasOrder net → HasOneTrace net from rows }
+{}
 
-/// A netlist isolates itself in one context, without images.
-pub fn isolates_itself(net: &Netlist)
-    ensures { Isolates net.now net.now (no_images net.now) 1 }
-{
-    net.keeps();
-}
+/// A netlist whose bits have an order isolates itself in one context, without images.
+pub fn isolates_itself()
+    ensures { (net : Net) → HasOrder net → Isolates net net (no_images net) 1 }
+{}
 
 /// Each cell has one entry among the shapes, and a memory alone has a shape. The words of the memories stand in order of
 /// the cells, under the cells' names, no two of which are equal.

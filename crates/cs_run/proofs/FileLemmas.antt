@@ -55,7 +55,7 @@ appended_nothing None = refl
 appended_nothing (Some told) = ap Some (append-nil told)
 
 pub puts_nothing : (old new : SinkState) → PutsSome old new [] → new ≡ old
-puts_nothing old new (inl puts) = puts ∙ ap (λ (written : Option (List ℕ)). let s : SinkState = record { written = written; faults = old.faults } in s) (appended_nothing old.written)
+puts_nothing old new (inl puts) = puts ∙ ap (λ (written : Option (List ℕ)). let s : SinkState = record old { written = written } in s) (appended_nothing old.written)
 puts_nothing old new (inr stops) = absurd (stops.0 refl)
 
 -- a file that is written is told
