@@ -1,7 +1,6 @@
 mod Lists
 mod Sees
 mod Runs
-mod Parts
 mod Slowed
 mod Shifted
 mod Pasts

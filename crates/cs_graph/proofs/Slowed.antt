@@ -14,7 +14,7 @@ use Rattle.cs_graph.specs.Run.{Row, Outs, carried, seen_edge, seen, value_at, me
 use Rattle.cs_graph.specs.Slow.{repeated, slow_edge, slow}
 use Rattle.cs_base.specs.Parts.{part}
 use Rattle.cs_graph.proofs.Sees.{value_same, outputs_same}
-use Rattle.cs_graph.proofs.Parts.{get_or-part, part_in, length-part}
+use Rattle.cs_base.proofs.PartLemmas.{get_or-part, part_in, length-part}
 
 -- ---- contents
 

@@ -13,7 +13,7 @@ use Rattle.cs_net.specs.Drivers.{driver_of, data_outputs, own_start}
 use Rattle.cs_net.specs.Contexts.{no_images}
 use Rattle.cs_net.specs.Isolates.{Isolates}
 use Rattle.cs_net.specs.Trace.{Row, Valuation, signal_value, value_by, source_value, next_bit, next_state, Settles, IsTrace, output_row, output_rows, Answers}
-use Rattle.cs_net.proofs.Parts.{get_or-part, length-part, part_in}
+use Rattle.cs_base.proofs.PartLemmas.{get_or-part, length-part, part_in}
 use Rattle.cs_net.proofs.Answering.{answer_exists, same_answer, start_without_images}
 use Rattle.cs_multiply.specs.Multiplies.{rewired, IsPlainRegister, IsSeries, IsQuiet, IsCarried, no_driver, from_input, from_gate, from_register, Multiplies, start_value}
 

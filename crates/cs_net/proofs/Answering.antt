@@ -8,7 +8,7 @@ use Rattle.cs_net.specs.Contexts.{with_images, no_images, start_of}
 use Rattle.cs_net.specs.Isolates.{Isolates}
 use Rattle.cs_net.specs.declared.state.MemoryWords.{MemoryWords}
 use Rattle.cs_net.specs.declared.state.Snapshot.{Snapshot}
-use Rattle.cs_net.proofs.Parts.{part_whole}
+use Rattle.cs_base.proofs.PartLemmas.{part_whole}
 use Rattle.cs_net.proofs.Traces.{settled, settled_settles, traces_agree}
 
 -- ---- the first clock and the rest

@@ -1,4 +1,4 @@
--- Where the rows of a part come from, and how many there are.
+-- Laws of parts: where the rows of a part come from, and how many there are.
 use Rattle.std.proofs.Common.{◌≡◌, ℕ, zero, suc, pred, ◌+◌, ◌-◌, ◌*◌, ◌/◌, ◌%◌, ◌<◌, ◌≤◌, true, false, List, [], ◌∷◌, length, get_or, eqb, inl, inr, refl, sym, ap, ◌∙◌, arith, eq-eqb, ne_eqb, ◌↔◌}
 use Rattle.std.proofs.lemmas.Bool.{cases_lt}
 use Rattle.std.proofs.Math.Nat.{div-lt_iff_lt-mul}
