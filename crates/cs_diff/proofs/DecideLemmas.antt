@@ -21,13 +21,13 @@ use Rattle.cs_diff.proofs.SolveLemmas.{negative_loop, starts_by_caps, cap_is}
 
 -- ---- all constraints hold, or one fails
 
-record Fails (cs : List Constraint) (r : ℕ → ℤ) : Type 0 where
-  place : ℕ
-  constraint : Constraint
-  found : slice_get cs place ≡ Some constraint
-  breaks : constraint.most <ℤ (r constraint.from -ℤ r constraint.to)
+pub record Fails (cs : List Constraint) (r : ℕ → ℤ) : Type 0 where
+  pub place : ℕ
+  pub constraint : Constraint
+  pub found : slice_get cs place ≡ Some constraint
+  pub breaks : constraint.most <ℤ (r constraint.from -ℤ r constraint.to)
 
-holds_or : (cs : List Constraint) (r : ℕ → ℤ)
+pub holds_or : (cs : List Constraint) (r : ℕ → ℤ)
     → ((i : ℕ) (c : Constraint) → slice_get cs i ≡ Some c → Holds r c) ⊎ Fails cs r
 holds_or [] r = inl (λ i c is. cc)
 holds_or (c ∷ cs) r =

@@ -11,3 +11,6 @@ pub mod StepLemmas
 pub mod FloorLemmas
 pub mod DecideLemmas
 pub mod LatticeLemmas
+pub mod GapLemmas
+pub mod BoundLemmas
+pub mod GreatestLemmas

@@ -18,6 +18,10 @@ pub record HasSolution (s : System) : Type 0 where
   pub values : ℕ → ℤ
   pub solves : IsSolution s values
 
+-- no constraint of the system is below -a
+abbrev pub AreAtLeast : System → ℕ → Type 0
+AreAtLeast s a = (i : ℕ) (c : Constraint) → slice_get s.constraints i ≡ Some c → pos 0 ≤ℤ (c.most +ℤ pos a)
+
 -- the values are nowhere above the caps
 abbrev pub IsUnder : System → (ℕ → ℤ) → (ℕ → ℤ) → Type 0
 IsUnder s caps r = (v : ℕ) → v < s.vertices → (r v) ≤ℤ (caps v)

@@ -15,7 +15,7 @@ pub mod types;
 
 pub use bounds::solve;
 pub use error::DiffError;
-pub use laws::{lattice, no_negative_loop};
+pub use laws::{greatest_exists, greatest_is_high, lattice, least_is_low, no_negative_loop};
 pub use least::floors;
 pub use system::{Constraint, System};
 
