@@ -70,7 +70,7 @@ impl<'a> Sim<'a> {
         net.keeps();
         let layout = Layout::of(alloc, net)?;
         let held = Held::at_start(alloc, net, &layout)?;
-        let values = vec![in alloc; false; layout.slots]?;
+        let values = vec![in alloc; false; layout.slots.count()]?;
         Ok(Sim {
             net,
             outputs: output_slots(alloc, net)?,
