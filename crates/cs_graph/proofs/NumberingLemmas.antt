@@ -144,6 +144,20 @@ vertices_begin all vertices edges rest none no_edge same short = rw (none, no_ed
   pins = short;
 })
 
+-- the next vertex has few pins, and its edges and registers are among all that are few
+pub next_is_small : (all : List OpenVertex) (vertices : List Vertex) (edges : List Edge)
+    (rest rest' : List OpenVertex) (x : OpenVertex) → VerticesSoFar all vertices edges rest → rest ≡ x ∷ rest'
+    → edge_count all < 2 ^ 32 → weight all < 2 ^ 32
+    → (length x.pins < 2 ^ 32) × (length edges + sum_by driven x.pins < 2 ^ 32)
+    × (sum_by registers x.pins < 2 ^ 32)
+next_is_small all vertices edges rest rest' x is next few light =
+    let sums = ap edge_count next ∙ sum_by-cons (λ (z : OpenVertex). sum_by driven z.pins) x rest' in
+    let lighter = ap weight next ∙ sum_by-cons (λ (z : OpenVertex). sum_by registers z.pins) x rest' in (
+      is.pins 0 x (ap (λ xs. slice_get xs 0) next),
+      omega (arith, is.room, sums, few),
+      omega (arith, is.short, lighter, light),
+    )
+
 pub vertices_go_on : (all : List OpenVertex) (vertices vertices' : List Vertex) (edges edges' : List Edge)
     (rest rest' : List OpenVertex) (x : OpenVertex) (y : Vertex) (v : ℕ)
     → VerticesSoFar all vertices edges rest → rest ≡ x ∷ rest' → v ≡ length vertices

@@ -1,5 +1,7 @@
 -- Clocks one after another, each row and answer behind those before.
-use Rattle.std.proofs.Common.{◌≡◌, ℕ, suc, ◌+◌, ◌*◌, ◌<◌, List, [], ◌∷◌, ◌++◌, length, get_or, take, Bool, refl, sym, ap, ap₂, subst, ◌∙◌, arith}
+use Rattle.std.proofs.Common.{◌≡◌, ℕ, suc, ◌+◌, ◌*◌, ◌<◌, List, [], ◌∷◌, ◌++◌, length, get_or, take, Bool, refl, sym, ap, subst, ◌∙◌, arith}
+use Rattle.std.specs.Prelude.{IfOk, Result, Ok, Err}
+use Rattle.std.specs.declared.alloc.AllocError.{AllocError}
 use Rattle.std.proofs.lemmas.List.{take_all, take_more}
 use Rattle.cs_net.specs.declared.state.Snapshot.{Snapshot}
 use Rattle.cs_net.specs.Drivers.{own_start}
@@ -7,7 +9,8 @@ use Rattle.cs_net.specs.Invariant.{IsWellFormed}
 use Rattle.cs_net.specs.Netlist.{Net, state_of}
 use Rattle.cs_net.specs.Trace.{Answers, AreSteps, IsStep, Row}
 use Rattle.cs_net.proofs.Answering.{answers_of_steps, same_answer}
-use Rattle.cs_stream.specs.Rows.{rows_within}
+use Rattle.cs_stream.specs.declared.stimulus.Stimulus.{Stimulus}
+use Rattle.cs_stream.specs.Rows.{rows_of, rows_within}
 use Rattle.cs_stream.proofs.RowLemmas.{length_more, rows_within-push}
 use Rattle.cs_sim.specs.Simulation.{Simulation}
 
@@ -67,3 +70,9 @@ all_answered net rows width count whole bits made sim answered long all are =
 pub only_answer : (net : Net) → IsWellFormed net → (rows one other : List Row) → Answers net (state_of (own_start net)) rows one
     → Answers net (state_of (own_start net)) rows other → other ≡ one
 only_answer net w rows one other a b = same_answer net w.order.place w.order.order rows (state_of (own_start net)) other one b a
+
+pub only_response : (net : Net) → IsWellFormed net → (rows : List Row) (response : Result Stimulus AllocError)
+    → IfOk response (λ r. Answers net (state_of (own_start net)) rows (rows_of r))
+    → IfOk response (λ r. (other : List Row) → Answers net (state_of (own_start net)) rows other → other ≡ rows_of r)
+only_response net w rows (Ok r) answers = λ other also. only_answer net w rows (rows_of r) other answers also
+only_response net w rows (Err e) answers = tt

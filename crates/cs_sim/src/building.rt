@@ -5,9 +5,10 @@ ghost use Rattle.cs_cells.specs.Memories.{read_register};
 ghost use Rattle.cs_base.specs.declared.signal.Signal.TheVariants.{Zero};
 ghost use Rattle.cs_net.specs.Drivers.{bits_of, read_data};
 ghost use Rattle.cs_net.specs.Pins.{count_from};
-ghost use Rattle.cs_sim.specs.Layout.{layout_of, no_parts, read_bit_of, read_port_slots, start_of, with_cell, with_clocked_read, with_gate, with_memory, with_part, with_read, with_register, with_unclocked_read, with_writes, write_slots};
+ghost use Rattle.cs_sim.specs.Layout.{driven_signals, layout_of, no_parts, read_bit_of, read_port_slots, start_of, with_cell, with_clocked_read, with_gate, with_memory, with_part, with_read, with_register, with_unclocked_read, with_writes, write_slots};
 
 use crate::layout::{Layout, Part, ReadBit, ReadPortSlots, RegisterSlots, Work, WriteSlots};
+use crate::room::Room;
 use crate::slots::value;
 use crate::wiring::Wiring;
 use cs_base::{Sequence, Signal};
@@ -132,27 +133,25 @@ fn all_write_slots(
 
 impl Layout {
     // Two slots for the constants, and no part.
-    fn new(alloc: Global) -> Self
-        ensures { result ≡ no_parts }
+    fn new(alloc: Global) -> Result<Self, AllocError>
+        ensures { IfOk result (λ layout. layout ≡ no_parts) }
     {
-        Layout {
+        Ok(Layout {
+            slots: Room::new(alloc, 2)?,
             parts: Sequence::new(alloc),
             registers: Sequence::new(alloc),
             read_ports: Sequence::new(alloc),
             writes: Sequence::new(alloc),
-            slots: 2,
-        }
+        })
     }
 
     // Adds a part that drives so many bits.
     fn push_part(&mut self, work: Work, outputs: usize) -> Result<(), AllocError>
         ensures { OnOk result (self.new ≡ with_part self.old work outputs) }
     {
-        let first = self.slots;
-        let slots = first.checked_add(outputs).ok_or(AllocError)?;
+        let first = self.slots.count();
         self.parts.push(Part { first, work })?;
-        self.slots = slots;
-        Ok(())
+        self.slots.extend(outputs)
     }
 
     fn push_gate(
@@ -347,17 +346,27 @@ impl Layout {
         }
     }
 
-    /// The layout of a netlist. It errs only where memory runs out.
+    // All parts of a netlist: its inputs, and what its cells drive.
     #[tactic(auto, unfolding(crate::specs::Layout::layout_of))]
+    fn push_all(&mut self, alloc: Global, wiring: &Wiring, net: &Netlist) -> Result<(), AllocError>
+        requires none { self.old ≡ no_parts }
+        requires wiring { wiring.now.driven ≡ driven_signals net.now }
+        ensures { OnOk result (self.new ≡ layout_of net.now) }
+    {
+        self.push_part(Work::Inputs, net.input_count())?;
+        for place in 0..net.cell_count() {
+            self.push_cell_at(alloc, wiring, net, place)?;
+        }
+        Ok(())
+    }
+
+    /// The layout of a netlist. It errs only where memory runs out.
     pub(crate) fn of(alloc: Global, net: &Netlist) -> Result<Self, AllocError>
         ensures { IfOk result (λ layout. layout ≡ layout_of net.now) }
     {
         let wiring = Wiring::of(alloc, net)?;
-        let mut layout = Layout::new(alloc);
-        layout.push_part(Work::Inputs, net.input_count())?;
-        for place in 0..net.cell_count() {
-            layout.push_cell_at(alloc, &wiring, net, place)?;
-        }
+        let mut layout = Layout::new(alloc)?;
+        layout.push_all(alloc, &wiring, net)?;
         Ok(layout)
     }
 }

@@ -1,4 +1,5 @@
 // Where the values of a netlist stand, and how they come about in each clock.
+use crate::room::Room;
 use cs_base::{Sequence, Signal};
 use cs_cells::{FfKind, Kind};
 
@@ -73,12 +74,12 @@ pub(crate) struct WriteSlots {
 }
 
 /// All parts in the order of the netlist's elements, the registers, the clocked read ports, the write ports of each
-/// memory, and how many slots there are.
+/// memory, and the slots.
 #[derive(Drop)]
 pub(crate) struct Layout {
     pub(crate) parts: Sequence<Part>,
     pub(crate) registers: Sequence<RegisterSlots>,
     pub(crate) read_ports: Sequence<ReadPortSlots>,
     pub(crate) writes: Sequence<Sequence<WriteSlots>>,
-    pub(crate) slots: usize,
+    pub(crate) slots: Room,
 }

@@ -6,6 +6,7 @@ mod held;
 mod layout;
 mod memory;
 mod response;
+mod room;
 mod settle;
 mod simulator;
 mod slots;

@@ -29,6 +29,32 @@ fn answer_row(
     Ok(())
 }
 
+// Goes through the clocks of a stimulus, and gives the row of each.
+fn answer_rows(
+    alloc: Global,
+    sim: &mut Sim,
+    stimulus: &Stimulus,
+    width: usize,
+) -> Result<Stimulus, AllocError>
+    requires inputs { stimulus.now.width ≡ length (data_inputs sim.old.net) }
+    requires outputs { width ≡ length (data_outputs sim.old.net) }
+    requires start { sim.old.state ≡ own_start sim.old.net }
+    ensures width { IfOk result (λ response. response.width ≡ width) }
+    ensures answers { IfOk result (λ response. Answers sim.old.net (state_of (own_start sim.old.net))
+        (rows_of stimulus.now) (rows_of response)) }
+{
+    let mut output = vec![in alloc; false; width]?;
+    let mut bits = Vec::new(alloc);
+    for place in 0..stimulus.count {
+        answer_row(sim, stimulus.row(place), output.as_mut_slice(), &mut bits)?;
+    }
+    Ok(Stimulus {
+        width,
+        count: stimulus.count,
+        bits: Sequence::from_vec(bits),
+    })
+}
+
 /// The one answer of a netlist to a stimulus, from its own start: a row of data output bits for each row of data input
 /// bits. It errs only where memory runs out.
 pub fn respond(alloc: Global, net: &Netlist, stimulus: &Stimulus) -> Result<Stimulus, AllocError>
@@ -40,21 +66,6 @@ pub fn respond(alloc: Global, net: &Netlist, stimulus: &Stimulus) -> Result<Stim
         → Answers net.now (state_of (own_start net.now)) (rows_of stimulus.now) other → other ≡ rows_of response) }
 {
     net.keeps();
-    let width = net.output_count();
     let mut sim = Sim::new(alloc, net)?;
-    let mut output = vec![in alloc; false; width]?;
-    let mut bits = Vec::new(alloc);
-    for place in 0..stimulus.count {
-        answer_row(
-            &mut sim,
-            stimulus.row(place),
-            output.as_mut_slice(),
-            &mut bits,
-        )?;
-    }
-    Ok(Stimulus {
-        width,
-        count: stimulus.count,
-        bits: Sequence::from_vec(bits),
-    })
+    answer_rows(alloc, &mut sim, stimulus, net.output_count())
 }

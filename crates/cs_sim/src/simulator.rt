@@ -68,12 +68,13 @@ impl<'a> Sim<'a> {
         ensures start { IfOk result (λ sim. sim.state ≡ own_start net.now) }
     {
         net.keeps();
+        let outputs = output_slots(alloc, net)?;
         let layout = Layout::of(alloc, net)?;
+        let values = vec![in alloc; false; layout.slots.count()]?;
         let held = Held::at_start(alloc, net, &layout)?;
-        let values = vec![in alloc; false; layout.slots]?;
         Ok(Sim {
             net,
-            outputs: output_slots(alloc, net)?,
+            outputs,
             layout,
             held,
             values,

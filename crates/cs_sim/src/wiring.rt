@@ -99,9 +99,6 @@ impl Wiring {
         ensures { IfOk result (λ wiring. wiring.driven ≡ driven_signals net.now) }
     {
         let signals = driven_signals(alloc, net)?;
-        if signals.len() > usize::MAX - 3 {
-            return Err(AllocError);
-        }
         Ok(Wiring {
             driven: Places::among(alloc, signals)?,
         })

@@ -1,6 +1,6 @@
 // The form of each command's words behind its name.
 ghost use Rattle.std.specs.Prelude.{◌≡◌, IfOk, IfSome};
-ghost use Rattle.cs_words.specs.Commands.{texts, slow_of, sim_of, mix_of, part_of, IsWithin};
+ghost use Rattle.cs_words.specs.Commands.{are_of_slow, texts, slow_of, sim_of, mix_of, part_of, IsWithin};
 
 use crate::command::{Command, MixWords, PartWords, SimWords, SlowWords};
 use crate::number::{read_context, read_contexts};
@@ -17,7 +17,7 @@ pub(crate) fn read_slow(alloc: Global, words: &[String]) -> Result<Option<Comman
     let [input, output, cert, delays, flag, count] = words else {
         return Ok(None);
     };
-    if flag.as_str() != "-c" || output.as_str() == cert.as_str() {
+    if !are_of_slow(output.as_str(), cert.as_str(), flag.as_str()) {
         return Ok(None);
     }
     let Some(contexts) = read_contexts(count.as_bytes()) else {
@@ -32,6 +32,12 @@ pub(crate) fn read_slow(alloc: Global, words: &[String]) -> Result<Option<Comman
         contexts,
     )?;
     Ok(Some(Command::Slow(words)))
+}
+
+fn are_of_slow(output: &str, cert: &str, flag: &str) -> bool
+    ensures { result ≡ are_of_slow output.now cert.now flag.now }
+{
+    flag == "-c" && output != cert
 }
 
 fn slow_words(

@@ -1,8 +1,9 @@
 // Reads the words after the program's name.
-ghost use Rattle.std.specs.Prelude.{◌≡◌, IfOk};
+ghost use Rattle.std.specs.Prelude.{◌≡◌, ◌∷◌, ◌⊎◌, Err, IfErr, IfOk};
 ghost use Rattle.std.specs.Option.{ForSome};
+ghost use Rattle.std.specs.Result.{ForOk};
 ghost use Rattle.cs_words.specs.Commands.{texts, command_of, said_by, IsWithin, Reads};
-ghost use Rattle.cs_words.specs.declared.read.WordError.TheVariants.{NoMemory};
+ghost use Rattle.cs_words.specs.declared.read.WordError.TheVariants.{BadWords, NoMemory};
 
 use crate::command::Command;
 use crate::forms::{read_mix, read_part, read_sim, read_slow};
@@ -36,35 +37,56 @@ pub fn read_words(alloc: Global, words: &[String]) -> Result<Command, WordError>
     ensures said { Reads (command_of (texts words.now)) result }
     ensures within { IfOk result IsWithin }
 {
-    let [first, others @ ..] = words else {
-        return Err(WordError::NoCommand);
-    };
-    let name = first.as_str();
+    match words {
+        [] => Err(WordError::NoCommand),
+        [name, others @ ..] => read_command(alloc, name.as_str(), others),
+    }
+}
+
+// The command of this name, of the words behind it.
+fn read_command(alloc: Global, name: &str, others: &[String]) -> Result<Command, WordError>
+    ensures said { Reads (command_of (name.now ∷ texts others.now)) result }
+    ensures within { IfOk result IsWithin }
+{
     if name == "slow" {
-        return said_by(alloc, name, read_slow(alloc, others)?);
+        return said_by(alloc, name, read_slow(alloc, others));
     }
     if name == "sim" {
-        return said_by(alloc, name, read_sim(alloc, others)?);
+        return said_by(alloc, name, read_sim(alloc, others));
     }
     if name == "mix" {
-        return said_by(alloc, name, read_mix(alloc, others)?);
+        return said_by(alloc, name, read_mix(alloc, others));
     }
     if name == "part" {
-        return said_by(alloc, name, read_part(alloc, others)?);
+        return said_by(alloc, name, read_part(alloc, others));
     }
     Err(WordError::NoCommand)
 }
 
+// The words behind the name of this command have another form.
+fn bad_words(alloc: Global, name: &str) -> WordError
+    ensures { (result ≡ NoMemory) ⊎ (result ≡ BadWords name.now) }
+{
+    match Text::from_str(alloc, name) {
+        Ok(command) => WordError::BadWords { command },
+        Err(AllocError) => WordError::NoMemory,
+    }
+}
+
 // The command that words say behind this name, or that they say none.
-fn said_by(alloc: Global, name: &str, said: Option<Command>) -> Result<Command, WordError>
-    requires { ForSome said IsWithin }
-    ensures said { Reads (said_by name.now said) result }
+fn said_by(
+    alloc: Global,
+    name: &str,
+    read: Result<Option<Command>, AllocError>,
+) -> Result<Command, WordError>
+    requires { ForOk read (λ said. ForSome said IsWithin) }
+    ensures said { IfOk read (λ said. Reads (said_by name.now said) result) }
+    ensures memory { IfErr read (λ _. result ≡ Err NoMemory) }
     ensures within { IfOk result IsWithin }
 {
-    match said {
-        Some(command) => Ok(command),
-        None => Err(WordError::BadWords {
-            command: Text::from_str(alloc, name)?,
-        }),
+    match read {
+        Ok(Some(command)) => Ok(command),
+        Ok(None) => Err(bad_words(alloc, name)),
+        Err(AllocError) => Err(WordError::NoMemory),
     }
 }

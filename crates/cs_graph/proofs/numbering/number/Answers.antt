@@ -1,10 +1,28 @@
 -- Vertex by vertex.
 use Rattle.std.proofs.Common.{◌≡◌, ◌++◌, List, length, ap, ◌∙◌, arith}
+use Rattle.std.specs.List.{sum_by}
 use Rattle.std.specs.Vec.Iter.{into_iter_items}
 use Rattle.cs_graph.specs.declared.vertex.Feed.{Feed}
-use Rattle.cs_graph.specs.Draft.{feeds_from, edges_into}
-use Rattle.cs_graph.proofs.NumberingLemmas.{vertices_go_on}
+use Rattle.cs_graph.specs.Draft.{driven, registers, feeds_from, edges_into}
+use Rattle.cs_graph.proofs.NumberingLemmas.{next_is_small, vertices_go_on}
 use Rattle.cs_graph.proofs.numbering.number.Goals as goal
+
+pub overflow_cast-len : goal.overflow_cast-len
+overflow_cast-len c =
+    let more = ap length c.in-Some.ensures.steps.0 in
+    omega (arith, c.loop-vertex.invariant.so_far.count, more, c.len.ensures, c.requires.vertices)
+
+pub feed_pins-requires : goal.feed_pins-requires
+feed_pins-requires c =
+    let sources = c.into_vec-sources.ensures in
+    let small = next_is_small c.args.vertices.items c.loop-vertex.numbered c.loop-vertex.edges
+    (into_iter_items c.loop-vertex.vertex-iterator) (into_iter_items c.next.new.self) c.in-Some.vertex
+    c.loop-vertex.invariant.so_far c.in-Some.ensures.steps.0 c.requires.edges c.requires.registers in
+    record {
+      pins = omega (arith, ap length sources, small.0);
+      few = omega (arith, ap (sum_by driven) sources, small.1);
+      short = omega (arith, ap (sum_by registers) sources, small.2);
+    }
 
 pub loop-vertex-preserved : goal.loop-vertex-preserved
 loop-vertex-preserved c =

@@ -1,41 +1,18 @@
-use Rattle.std.proofs.Common.{◌≡◌, ◌<◌, ◌∙◌, [], List, Bool, length, length-append, ap, sym, arith}
-use Rattle.std.proofs.lemmas.List.{length-drop, length-take}
-use Rattle.cs_net.specs.Drivers.{data_inputs}
-use Rattle.cs_net.specs.Netlist.{Net}
-use Rattle.cs_stream.specs.Rows.{rows_of, rows_within}
-use Rattle.cs_stream.proofs.RowLemmas.{length-rows_within, length_row}
-use Rattle.cs_sim.proofs.RunLemmas.{all_answered, answered_more, only_answer}
+use Rattle.std.proofs.Common.{IfOk, subst}
+use Rattle.cs_net.specs.Drivers.{own_start}
+use Rattle.cs_net.specs.Netlist.{Net, state_of}
+use Rattle.cs_net.specs.Trace.{Answers}
+use Rattle.cs_stream.specs.Rows.{rows_of}
+use Rattle.cs_sim.proofs.RunLemmas.{only_response}
 use Rattle.cs_sim.proofs.response.respond.Goals as goal
-
-pub answer_row-requires-clause-inputs : goal.answer_row-requires-clause-inputs
-answer_row-requires-clause-inputs c =
-    let s = c.args.stimulus.now in
-    ap length c.row.ensures ∙ length_row s.count s.width c.loop-place.place s.bits [] s.whole c.loop-place-test.true
-    ∙ c.requires ∙ ap (λ (n : Net). length (data_inputs n)) (sym c.loop-place.invariant.0.same)
-
-pub loop-place-preserved : goal.loop-place-preserved
-loop-place-preserved c =
-    let s = c.args.stimulus.now in
-    let wide : length c.answer_row.new.output ≡ c.output_count-width.result
-    = omega (arith, c.as_mut_slice.ensures.len, c.loop-place.invariant.1) in
-    let below : c.loop-place.place < length (rows_of s)
-    = omega (arith, length-rows_within s.count s.width s.bits, c.loop-place-test.true) in (
-      answered_more c.args.net.now (rows_of s) c.output_count-width.result c.loop-place.place c.loop-place.bits.items c.answer_row.new.bits.items
-          c.answer_row.new.output c.row.result.now c.loop-place.sim c.answer_row.new.sim c.loop-place.invariant.0 below c.row.ensures wide
-          c.in_ok-answer_row.ensures.bits c.in_ok-answer_row.ensures.net c.in_ok-answer_row.ensures.step,
-      simp (length-take, length-append, length-drop) (omega (arith, wide, c.loop-place.invariant.1)),
-    )
 
 pub returns-clause-answers : goal.returns-clause-answers
 returns-clause-answers c =
-    let s = c.args.stimulus.now in
-    all_answered c.args.net.now (rows_of s) c.output_count-width.result c.loop-place.place s.count c.loop-place.bits.items c.from_vec.result c.loop-place.sim
-    c.loop-place.invariant.0 (length-rows_within s.count s.width s.bits) (omega arith) c.from_vec.ensures
+    subst (λ (n : Net). IfOk c.answer_rows.result
+    (λ response. Answers n (state_of (own_start n)) (rows_of c.args.stimulus.now) (rows_of response)))
+    c.in_ok-sim.ensures.net c.answer_rows.ensures.answers
 
 pub returns-clause-only : goal.returns-clause-only
 returns-clause-only c =
-    let s = c.args.stimulus.now in
-    λ other answers.
-    only_answer c.args.net.now c.keeps.ensures (rows_of s) (rows_within s.count c.output_count-width.result c.from_vec.result) other
-    (all_answered c.args.net.now (rows_of s) c.output_count-width.result c.loop-place.place s.count c.loop-place.bits.items c.from_vec.result c.loop-place.sim
-    c.loop-place.invariant.0 (length-rows_within s.count s.width s.bits) (omega arith) c.from_vec.ensures) answers
+    only_response c.args.net.now c.keeps.ensures (rows_of c.args.stimulus.now) c.answer_rows.result
+    (returns-clause-answers c)

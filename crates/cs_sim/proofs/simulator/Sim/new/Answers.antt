@@ -10,7 +10,7 @@ pub invariant_of-result : goal.invariant_of-result
 invariant_of-result c =
     let net = c.args.net.now in (
       c.in_ok-layout.ensures,
-      c.in_ok-output_slots.ensures,
+      c.in_ok-outputs.ensures,
       subst (λ (h : HeldValues). Fits c.in_ok-layout.layout h) (sym c.in_ok-held.ensures)
           (subst (λ (l : Layout). Fits l (held_at_start net l)) (sym c.in_ok-layout.ensures) (fits_at_start net c.keeps.ensures)),
       omega (arith, c.in_ok-values.values.ok.0, c.in_ok-values.ensures.len),
