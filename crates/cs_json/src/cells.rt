@@ -1,9 +1,9 @@
 // Cells and their pins.
 ghost use Rattle.std.specs.Prelude.{◌≡◌, IfOk, map, codes};
-ghost use Rattle.serde_json.specs.View.{view};
+ghost use Rattle.serde_json.specs.View.{members_view, view};
 ghost use Rattle.cs_json.specs.Gives.{Gives, members_at};
-ghost use Rattle.cs_json.specs.Shape.{wires, pin_of, cell, says};
-ghost use Rattle.cs_json.specs.Walk.{text as text_at};
+ghost use Rattle.cs_json.specs.Shape.{wires, pin_of, cell, entries_of, says};
+ghost use Rattle.cs_json.specs.Walk.{required as required_at, text as text_at};
 
 use crate::document::{CellDecl, PinDecl};
 use crate::entries::entries_at;
@@ -70,24 +70,59 @@ fn text(alloc: Global, value: &Value) -> Result<Text, ReadError>
     }
 }
 
-fn cell(alloc: Global, name: &str, value: &Value) -> Result<CellDecl, ReadError>
-    ensures { Gives result (cell name.now (view value.now)) }
+// The bits of all pins, which have to be there.
+fn wires_in(alloc: Global, members: &Members) -> Result<Sequence<Wire>, ReadError>
+    ensures { Gives result (required_at wires (codes "connections") (members_view members.now.entries)) }
 {
-    let members = object(alloc, value)?;
-    let attributes = optional(alloc, members, "attributes")?;
     let connections = required(alloc, members, "connections")?;
-    let wires = at_key(alloc, "connections", wires(alloc, connections))?;
-    let parameters = optional(alloc, members, "parameters")?;
-    let directions = optional(alloc, members, "port_directions")?;
+    at_key(alloc, "connections", wires(alloc, connections))
+}
+
+// The name of the type, which has to be there.
+fn kind_in(alloc: Global, members: &Members) -> Result<Text, ReadError>
+    ensures { Gives result (required_at text_at (codes "type") (members_view members.now.entries)) }
+{
     let kind = required(alloc, members, "type")?;
-    let kind = at_key(alloc, "type", text(alloc, kind))?;
+    at_key(alloc, "type", text(alloc, kind))
+}
+
+// A cell of these parts, none of which is refused any more.
+fn declared(
+    alloc: Global,
+    name: &str,
+    kind: Text,
+    parameters: Option<&Members>,
+    attributes: Option<&Members>,
+    pins: Sequence<PinDecl>,
+) -> Result<CellDecl, AllocError>
+    ensures { IfOk result (λ made. made ≡ record {
+      name = name.now;
+      kind = kind;
+      parameters = entries_of (members_at parameters.entry);
+      attributes = entries_of (members_at attributes.entry);
+      pins = pins;
+    }) }
+{
     Ok(CellDecl {
         name: Text::from_str(alloc, name)?,
         kind,
         parameters: entries_at(alloc, parameters)?,
         attributes: entries_at(alloc, attributes)?,
-        pins: pins(alloc, wires, directions)?,
+        pins,
     })
+}
+
+fn cell(alloc: Global, name: &str, value: &Value) -> Result<CellDecl, ReadError>
+    ensures { Gives result (cell name.now (view value.now)) }
+{
+    let members = object(alloc, value)?;
+    let attributes = optional(alloc, members, "attributes")?;
+    let wires = wires_in(alloc, members)?;
+    let parameters = optional(alloc, members, "parameters")?;
+    let directions = optional(alloc, members, "port_directions")?;
+    let pins = pins(alloc, wires, directions)?;
+    let kind = kind_in(alloc, members)?;
+    Ok(declared(alloc, name, kind, parameters, attributes, pins)?)
 }
 
 impl Keyed for CellDecl {

@@ -6,8 +6,8 @@ ghost use Rattle.cs_json.specs.Readable.{IsReadable};
 ghost use Rattle.cs_json.specs.Shape.{document, Says};
 
 use crate::document::Document;
-use crate::printing::object_of;
-use serde_json::{Value, json};
+use crate::printing::{put_object, put_text};
+use serde_json::{Map, Value};
 use std::alloc::{AllocError, Global};
 
 #[tactic(auto, unfolding(crate::specs::Printed::data_of))]
@@ -15,8 +15,10 @@ fn value_of(alloc: Global, doc: &Document) -> Result<Value, AllocError>
     requires { IsReadable doc.now }
     ensures { IfOk result (λ v. view v ≡ data_of doc.now) }
 {
-    let modules = object_of(alloc, doc.modules.as_slice())?;
-    json!(in alloc; {"creator": "cslow", "modules": modules})
+    let mut members = Map::new(alloc);
+    put_text(alloc, &mut members, "creator", "cslow")?;
+    put_object(alloc, &mut members, "modules", doc.modules.as_slice())?;
+    Ok(Value::Object(members))
 }
 
 /// Prints a document as compact JSON with keys in byte order, and one newline.

@@ -1,16 +1,17 @@
 // What prints as a member of an object: attributes, ports, netnames, cells and modules.
-ghost use Rattle.std.specs.Prelude.{◌≡◌, IfOk, IsTrue, map};
+ghost use Rattle.std.specs.Prelude.{◌≡◌, IfOk, IsTrue, OnOk, codes, map};
 ghost use Rattle.std.specs.List.{AllByRecursion};
-ghost use Rattle.serde_json.specs.Data.{number as number_data, string as string_data};
+ghost use Rattle.serde_json.specs.Data.{number as number_data, put, string as string_data};
 ghost use Rattle.serde_json.specs.Find.{of_integer};
-ghost use Rattle.serde_json.specs.View.{view};
+ghost use Rattle.serde_json.specs.View.{members_view, view};
 ghost use Rattle.cs_json.specs.Printed.{Member, object_from, signal_data, signals_data, datum_data, direction_text, wire_member, wire_of, side_member};
 ghost use Rattle.cs_json.specs.Readable.{AreInOrder, is_readable_datum};
 ghost use Rattle.cs_json.specs.Shape.{is_kept_number};
 
 use crate::document::{CellDecl, Datum, Direction, Entry, Module, NetDecl, PinDecl, PortDecl};
+use crate::members::Members;
 use cs_base::Signal;
-use serde_json::{Map, Value, json};
+use serde_json::{Map, Value};
 use std::alloc::{AllocError, Global};
 
 pub(crate) trait Printing {
@@ -42,6 +43,22 @@ pub(crate) fn object_of<T: Printing>(alloc: Global, items: &[T]) -> Result<Value
     Ok(Value::Object(map))
 }
 
+/// Puts an object with a member for each thing of a list.
+pub(crate) fn put_object<T: Printing>(
+    alloc: Global,
+    members: &mut Members,
+    key: &str,
+    items: &[T],
+) -> Result<(), AllocError>
+    requires readable { AllByRecursion T.is_readable items.now }
+    requires order { AreInOrder (λ x. (T.member x).0) items.now }
+    ensures { OnOk result (members_view members.new.entries
+        ≡ put key.now (object_from T.member items.now) (members_view members.old.entries)) }
+{
+    let value = object_of(alloc, items)?;
+    serde_json::put(members, alloc, key, value)
+}
+
 fn signal(alloc: Global, signal: Signal) -> Result<Value, AllocError>
     ensures { IfOk result (λ v. view v ≡ signal_data signal) }
 {
@@ -62,6 +79,34 @@ fn signals(alloc: Global, bits: &[Signal]) -> Result<Value, AllocError>
         items.push(signal(alloc, *bit)?)?;
     }
     Ok(Value::Array(items))
+}
+
+// Puts a bit list.
+fn put_signals(
+    alloc: Global,
+    members: &mut Members,
+    key: &str,
+    bits: &[Signal],
+) -> Result<(), AllocError>
+    ensures { OnOk result (members_view members.new.entries
+        ≡ put key.now (signals_data bits.now) (members_view members.old.entries)) }
+{
+    let value = signals(alloc, bits)?;
+    serde_json::put(members, alloc, key, value)
+}
+
+/// Puts a text.
+pub(crate) fn put_text(
+    alloc: Global,
+    members: &mut Members,
+    key: &str,
+    text: &str,
+) -> Result<(), AllocError>
+    ensures { OnOk result (members_view members.new.entries
+        ≡ put key.now (string_data text.now) (members_view members.old.entries)) }
+{
+    let value = Value::try_from_str(alloc, text)?;
+    serde_json::put(members, alloc, key, value)
 }
 
 fn number(z: i128) -> Value
@@ -126,8 +171,10 @@ impl Printing for PortDecl {
     }
 
     fn value(&self, alloc: Global) -> Result<Value, AllocError> {
-        let bits = signals(alloc, self.bits.as_slice())?;
-        json!(in alloc; {"bits": bits, "direction": direction(self.direction)})
+        let mut members = Map::new(alloc);
+        put_signals(alloc, &mut members, "bits", self.bits.as_slice())?;
+        put_text(alloc, &mut members, "direction", direction(self.direction))?;
+        Ok(Value::Object(members))
     }
 }
 
@@ -144,9 +191,16 @@ impl Printing for NetDecl {
     }
 
     fn value(&self, alloc: Global) -> Result<Value, AllocError> {
-        let attributes = object_of(alloc, self.attributes.as_slice())?;
-        let bits = signals(alloc, self.bits.as_slice())?;
-        json!(in alloc; {"attributes": attributes, "bits": bits, "hide_name": 1u64})
+        let mut members = Map::new(alloc);
+        put_object(
+            alloc,
+            &mut members,
+            "attributes",
+            self.attributes.as_slice(),
+        )?;
+        put_signals(alloc, &mut members, "bits", self.bits.as_slice())?;
+        serde_json::put(&mut members, alloc, "hide_name", Value::from(1u64))?;
+        Ok(Value::Object(members))
     }
 }
 
@@ -156,8 +210,7 @@ fn connections(alloc: Global, pins: &[PinDecl]) -> Result<Value, AllocError>
 {
     let mut map = Map::new(alloc);
     for pin in pins {
-        let bits = signals(alloc, pin.bits.as_slice())?;
-        serde_json::put(&mut map, alloc, pin.name.as_str(), bits)?;
+        put_signals(alloc, &mut map, pin.name.as_str(), pin.bits.as_slice())?;
     }
     Ok(Value::Object(map))
 }
@@ -174,10 +227,27 @@ fn sides(alloc: Global, pins: &[PinDecl]) -> Result<Value, AllocError>
 {
     let mut map = Map::new(alloc);
     for pin in pins {
-        let side = Value::try_from_str(alloc, side(pin))?;
-        serde_json::put(&mut map, alloc, pin.name.as_str(), side)?;
+        put_text(alloc, &mut map, pin.name.as_str(), side(pin))?;
     }
     Ok(Value::Object(map))
+}
+
+fn put_connections(alloc: Global, members: &mut Members, pins: &[PinDecl]) -> Result<(), AllocError>
+    requires { AreInOrder (λ p. p.name) pins.now }
+    ensures { OnOk result (members_view members.new.entries
+        ≡ put (codes "connections") (object_from wire_member (map wire_of pins.now)) (members_view members.old.entries)) }
+{
+    let value = connections(alloc, pins)?;
+    serde_json::put(members, alloc, "connections", value)
+}
+
+fn put_sides(alloc: Global, members: &mut Members, pins: &[PinDecl]) -> Result<(), AllocError>
+    requires { AreInOrder (λ p. p.name) pins.now }
+    ensures { OnOk result (members_view members.new.entries
+        ≡ put (codes "port_directions") (object_from side_member pins.now) (members_view members.old.entries)) }
+{
+    let value = sides(alloc, pins)?;
+    serde_json::put(members, alloc, "port_directions", value)
 }
 
 impl Printing for CellDecl {
@@ -193,18 +263,24 @@ impl Printing for CellDecl {
     }
 
     fn value(&self, alloc: Global) -> Result<Value, AllocError> {
-        let attributes = object_of(alloc, self.attributes.as_slice())?;
-        let connections = connections(alloc, self.pins.as_slice())?;
-        let parameters = object_of(alloc, self.parameters.as_slice())?;
-        let sides = sides(alloc, self.pins.as_slice())?;
-        json!(in alloc; {
-            "attributes": attributes,
-            "connections": connections,
-            "hide_name": 1u64,
-            "parameters": parameters,
-            "port_directions": sides,
-            "type": self.kind.as_str()
-        })
+        let mut members = Map::new(alloc);
+        put_object(
+            alloc,
+            &mut members,
+            "attributes",
+            self.attributes.as_slice(),
+        )?;
+        put_connections(alloc, &mut members, self.pins.as_slice())?;
+        serde_json::put(&mut members, alloc, "hide_name", Value::from(1u64))?;
+        put_object(
+            alloc,
+            &mut members,
+            "parameters",
+            self.parameters.as_slice(),
+        )?;
+        put_sides(alloc, &mut members, self.pins.as_slice())?;
+        put_text(alloc, &mut members, "type", self.kind.as_str())?;
+        Ok(Value::Object(members))
     }
 }
 
@@ -221,15 +297,16 @@ impl Printing for Module {
     }
 
     fn value(&self, alloc: Global) -> Result<Value, AllocError> {
-        let attributes = object_of(alloc, self.attributes.as_slice())?;
-        let cells = object_of(alloc, self.cells.as_slice())?;
-        let nets = object_of(alloc, self.nets.as_slice())?;
-        let ports = object_of(alloc, self.ports.as_slice())?;
-        json!(in alloc; {
-            "attributes": attributes,
-            "cells": cells,
-            "netnames": nets,
-            "ports": ports
-        })
+        let mut members = Map::new(alloc);
+        put_object(
+            alloc,
+            &mut members,
+            "attributes",
+            self.attributes.as_slice(),
+        )?;
+        put_object(alloc, &mut members, "cells", self.cells.as_slice())?;
+        put_object(alloc, &mut members, "netnames", self.nets.as_slice())?;
+        put_object(alloc, &mut members, "ports", self.ports.as_slice())?;
+        Ok(Value::Object(members))
     }
 }

@@ -40,11 +40,10 @@ start_push (start ∷ starts) total zero = refl
 start_push (start ∷ starts) total (suc i) = start_push starts total i
 
 pub are_rows_push_row : (starts : List ℕ) (total : ℕ) → AreRows starts total
-    → length starts + 1 < 2 ^ 32 → AreRows (starts ++ total ∷ []) total
-are_rows_push_row starts total h room = record {
+    → AreRows (starts ++ total ∷ []) total
+are_rows_push_row starts total h = record {
   rising = λ i. rw (start_push starts total i, start_push starts total (i + 1)) (h.rising i);
   within = λ i. rw (start_push starts total i) (h.within i);
-  few = omega (arith, length_push starts total);
 }
 
 -- ---- an item more
@@ -81,7 +80,6 @@ are_rows_push_item starts total h = record {
         | inl (same, below) ↦ omega arith
         | inr (past, beyond) ↦ omega arith
       ];
-  few = h.few;
 }
 
 -- a part before the end stays
@@ -109,7 +107,6 @@ are_rows_tail : (start : ℕ) (starts : List ℕ) (total : ℕ) → AreRows (sta
 are_rows_tail start starts total h = record {
   rising = λ i. rw (add-one i) (rw (add-one (suc i)) at (h.rising (suc i)));
   within = λ i. h.within (suc i);
-  few = omega (arith, h.few);
 }
 
 pub rows_push_item : (starts items : List ℕ) (x : ℕ) → 0 < length starts

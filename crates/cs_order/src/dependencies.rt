@@ -12,7 +12,7 @@ use std::marker::Model;
 #[derive(Debug, Drop)]
 pub struct Dependencies {
     starts: Vec<usize>,
-    sources: Vec<u32>,
+    sources: Vec<usize>,
 }
 
 impl Model for Dependencies {
@@ -37,13 +37,13 @@ fn end_of(starts: &[usize], total: usize, index: usize) -> usize
 }
 
 /// A row.
-fn row<'a>(starts: &[usize], items: &'a [u32], index: u32) -> &'a [u32]
+fn row<'a>(starts: &[usize], items: &'a [usize], index: usize) -> &'a [usize]
     requires rows { AreRows starts.now (length items.now) }
     requires within { index < length starts.now }
     ensures { result.now ≡ get_or (rows_of starts.now items.now) index [] }
 {
-    let start = starts[index as usize];
-    let end = end_of(starts, items.len(), index as usize);
+    let start = starts[index];
+    let end = end_of(starts, items.len(), index);
     &items[start..end]
 }
 
@@ -59,10 +59,10 @@ impl Dependencies {
     }
 
     /// How many vertices there are.
-    pub fn len(&self) -> u32
+    pub fn len(&self) -> usize
         ensures { result ≡ length self.now }
     {
-        self.starts.len() as u32
+        self.starts.len()
     }
 
     /// Whether there are no vertices.
@@ -75,7 +75,6 @@ impl Dependencies {
     /// Adds a vertex, as yet without sources; its number is how many there were. A refusal leaves the
     /// graph unchanged.
     pub fn push_vertex(&mut self) -> Result<(), AllocError>
-        requires room { length self.old + 1 < 2 ^ 32 }
         ensures ok { OnOk result (self.new ≡ self.old ++ [] ∷ []) }
         ensures err { OnErr result (self.new ≡ self.old) }
     {
@@ -84,7 +83,7 @@ impl Dependencies {
     }
 
     /// Puts a source behind the others of the last vertex. A refusal leaves the graph unchanged.
-    pub fn push_source(&mut self, source: u32) -> Result<(), AllocError>
+    pub fn push_source(&mut self, source: usize) -> Result<(), AllocError>
         requires some { 0 < length self.old }
         ensures ok { OnOk result (self.new ≡ push_source source self.old) }
         ensures err { OnErr result (self.new ≡ self.old) }
@@ -95,8 +94,7 @@ impl Dependencies {
 
     /// Adds a vertex with its sources. After a refusal the graph may have the vertex already, with the
     /// first of its sources.
-    pub fn add_vertex(&mut self, sources: &[u32]) -> Result<(), AllocError>
-        requires room { length self.old + 1 < 2 ^ 32 }
+    pub fn add_vertex(&mut self, sources: &[usize]) -> Result<(), AllocError>
         ensures ok { OnOk result (self.new ≡ self.old ++ sources.now ∷ []) }
         ensures err { OnErr result (IsPartlyAdded self.old sources.now self.new) }
     {
@@ -108,7 +106,7 @@ impl Dependencies {
     }
 
     /// The sources of a vertex, in the order in which they were pushed.
-    pub fn sources(&self, vertex: u32) -> &[u32]
+    pub fn sources(&self, vertex: usize) -> &[usize]
         requires { vertex < length self.now }
         ensures { result.now ≡ sources_of self.now vertex }
     {

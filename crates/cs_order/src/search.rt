@@ -13,12 +13,12 @@ use std::alloc::{AllocError, Global};
 pub struct Search {
     pub states: Vec<State>,
     pub cursors: Vec<usize>,
-    pub path: Vec<u32>,
-    pub order: Vec<u32>,
+    pub path: Vec<usize>,
+    pub order: Vec<usize>,
 }
 
 /// The first place where a vertex stands.
-fn place_of(path: &[u32], vertex: u32) -> usize
+fn place_of(path: &[usize], vertex: usize) -> usize
     requires { Contains path.now vertex }
     ensures { slice_get path.now result ≡ Some vertex }
 {
@@ -34,7 +34,7 @@ impl Search {
         ensures search { IfOk result (Searches graph.now) }
         ensures rest { IfOk result (λ s. s.path.items ≡ []) }
     {
-        let vertices = graph.len() as usize;
+        let vertices = graph.len();
         Ok(Search {
             states: vec![in alloc; State::Unseen; vertices]?,
             cursors: vec![in alloc; 0; vertices]?,
@@ -44,7 +44,7 @@ impl Search {
     }
 
     /// Puts a vertex that is met for the first time at the end of the path.
-    fn enter(&mut self, vertex: u32) -> Result<(), AllocError>
+    fn enter(&mut self, vertex: usize) -> Result<(), AllocError>
         requires { vertex < length self.old.states.items }
         ensures states { OnOk result (self.new.states.items
             ≡ slice_set self.old.states.items vertex State.Open) }
@@ -53,12 +53,12 @@ impl Search {
         ensures order { self.new.order.items ≡ self.old.order.items }
     {
         self.path.push(vertex)?;
-        self.states[vertex as usize] = State::Open;
+        self.states[vertex] = State::Open;
         Ok(())
     }
 
     /// Moves the last vertex of the path to the end of the order.
-    fn leave(&mut self, vertex: u32) -> Result<(), AllocError>
+    fn leave(&mut self, vertex: usize) -> Result<(), AllocError>
         requires { vertex < length self.old.states.items }
         ensures states { OnOk result (self.new.states.items
             ≡ slice_set self.old.states.items vertex State.Placed) }
@@ -69,12 +69,12 @@ impl Search {
     {
         self.order.push(vertex)?;
         let _last = self.path.pop();
-        self.states[vertex as usize] = State::Placed;
+        self.states[vertex] = State::Placed;
         Ok(())
     }
 
     /// The first source of a vertex that is not placed yet; its cursor goes there.
-    fn next_source(&mut self, graph: &Dependencies, vertex: u32) -> Option<u32>
+    fn next_source(&mut self, graph: &Dependencies, vertex: usize) -> Option<usize>
         requires search { Searches graph.now self.old }
         requires within { vertex < length graph.now }
         ensures search { Searches graph.now self.new }
@@ -85,18 +85,14 @@ impl Search {
             × (is_pending self.old.states.items w ≡ true)) }
     {
         let sources = graph.sources(vertex);
-        let at = first_pending(
-            self.states.as_slice(),
-            sources,
-            self.cursors[vertex as usize],
-        );
-        self.cursors[vertex as usize] = at;
+        let at = first_pending(self.states.as_slice(), sources, self.cursors[vertex]);
+        self.cursors[vertex] = at;
         sources.get(at).copied()
     }
 
     /// Looks on from the last vertex of the path: places it, or goes on to a source of it, or tells that
     /// this source is on the path already.
-    fn step(&mut self, graph: &Dependencies, vertex: u32) -> Result<Option<u32>, AllocError>
+    fn step(&mut self, graph: &Dependencies, vertex: usize) -> Result<Option<usize>, AllocError>
         requires search { Searches graph.now self.old }
         requires last { slice_get self.old.path.items (length self.old.path.items - 1) ≡ Some vertex }
         ensures search { OnOk result (Searches graph.now self.new) }
@@ -117,7 +113,7 @@ impl Search {
 
     /// Places a vertex and all that lead to it, or tells the vertex of the path where a loop begins
     /// and ends.
-    pub fn visit(&mut self, graph: &Dependencies, root: u32) -> Result<Option<u32>, AllocError>
+    pub fn visit(&mut self, graph: &Dependencies, root: usize) -> Result<Option<usize>, AllocError>
         requires search { Searches graph.now self.old }
         requires rest { self.old.path.items ≡ [] }
         requires within { root < length graph.now }
@@ -140,7 +136,7 @@ impl Search {
     }
 
     /// The path from a vertex of it on.
-    pub fn path_from(&self, alloc: Global, vertex: u32) -> Result<Vec<u32>, AllocError>
+    pub fn path_from(&self, alloc: Global, vertex: usize) -> Result<Vec<usize>, AllocError>
         requires { Contains self.now.path.items vertex }
         ensures { IfOk result (λ vs. IsPartFrom self.now.path.items vertex vs.items) }
     {

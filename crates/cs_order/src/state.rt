@@ -15,28 +15,28 @@ pub enum State {
 }
 
 /// Whether the vertex was not met yet.
-pub fn is_unseen(states: &[State], vertex: u32) -> bool
+pub fn is_unseen(states: &[State], vertex: usize) -> bool
     ensures yes { OnTrue result (slice_get states.now vertex ≡ Some State.Unseen) }
     ensures no { OnFalse result (¬ (slice_get states.now vertex ≡ Some State.Unseen)) }
 {
-    match states.get(vertex as usize) {
+    match states.get(vertex) {
         Some(State::Unseen) => true,
         None | Some(State::Open | State::Placed) => false,
     }
 }
 
 /// Whether the number is that of a vertex that is not placed yet.
-pub fn is_pending(states: &[State], vertex: u32) -> bool
+pub fn is_pending(states: &[State], vertex: usize) -> bool
     ensures { result ≡ is_pending states.now vertex }
 {
-    match states.get(vertex as usize) {
+    match states.get(vertex) {
         None | Some(State::Placed) => false,
         Some(State::Unseen | State::Open) => true,
     }
 }
 
 /// The place of the first source, from a place on, that is not placed yet, or how many there are.
-pub fn first_pending(states: &[State], sources: &[u32], from: usize) -> usize
+pub fn first_pending(states: &[State], sources: &[usize], from: usize) -> usize
     ensures ahead { from ≤ result }
     ensures passed { ArePassed states.now sources.now from result }
     ensures found { (w : ℕ) → slice_get sources.now result ≡ Some w → is_pending states.now w ≡ true }

@@ -2,7 +2,7 @@ use crate::{Arrangement, Dependencies, arrange, loop_from_any, no_loop_in_order,
 use std::alloc::Global;
 use std::test::Fail;
 
-fn arranged(alloc: Global, rows: &[&[u32]]) -> Result<Arrangement, Fail> {
+fn arranged(alloc: Global, rows: &[&[usize]]) -> Result<Arrangement, Fail> {
     let mut graph = Dependencies::new(alloc);
     for sources in rows {
         if graph.len() < 10 {
@@ -12,14 +12,14 @@ fn arranged(alloc: Global, rows: &[&[u32]]) -> Result<Arrangement, Fail> {
     Ok(arrange(alloc, &graph)?)
 }
 
-fn order_of(alloc: Global, rows: &[&[u32]]) -> Result<Vec<u32>, Fail> {
+fn order_of(alloc: Global, rows: &[&[usize]]) -> Result<Vec<usize>, Fail> {
     match arranged(alloc, rows)? {
         Arrangement::Order(order) => Ok(order),
         Arrangement::Loop(_) => Err(Fail::from("a loop")),
     }
 }
 
-fn loop_of(alloc: Global, rows: &[&[u32]]) -> Result<Vec<u32>, Fail> {
+fn loop_of(alloc: Global, rows: &[&[usize]]) -> Result<Vec<usize>, Fail> {
     match arranged(alloc, rows)? {
         Arrangement::Order(_) => Err(Fail::from("an order")),
         Arrangement::Loop(vertices) => Ok(vertices),

@@ -11,9 +11,9 @@ use std::alloc::{AllocError, Global};
 #[derive(Debug, Drop)]
 pub enum Arrangement {
     /// Each vertex once, after all that it depends on.
-    Order(Vec<u32>),
+    Order(Vec<usize>),
     /// Vertices, none twice, each of which depends on the next, and the last on the first.
-    Loop(Vec<u32>),
+    Loop(Vec<usize>),
 }
 
 /// An order in which each vertex stands after all that it depends on, or a loop, exactly where there is
