@@ -28,6 +28,3 @@ pub use laws::{contexts_alone, one_run, right_contents, starts, values_ahead};
 pub use machine::Machine;
 pub use memory::Memory;
 pub use vertex::{Feed, Pins, Vertex, VertexKind};
-
-#[cfg(test)]
-mod tests;

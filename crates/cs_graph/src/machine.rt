@@ -190,3 +190,11 @@ fn are_delays_of(vertices: &[Vertex], delays: &Delays) -> bool
     }
     true
 }
+
+fn crosses_threads<T: Send + Sync>(_: &T) {}
+
+// Machines and their delays go from thread to thread.
+fn machines_cross_threads(machine: &Machine, delays: &Delays) {
+    crosses_threads(machine);
+    crosses_threads(delays);
+}

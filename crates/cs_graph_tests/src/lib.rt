@@ -1,0 +1,9 @@
+//! Tests of the machine graph, over its public calls alone.
+#![tactic(auto)]
+
+#[cfg(test)]
+mod building;
+#[cfg(test)]
+mod limits;
+#[cfg(test)]
+mod machines;
