@@ -83,19 +83,48 @@ fn edges_by_vertex_and_pin(rt: HostRuntime) {
     }
 }
 
-fn edge(e: u32) -> Feed {
-    Feed::Edge(EdgeId::new(e))
+// What a pin reads: the edge of a number, or a bit.
+#[derive(Clone, Copy)]
+enum Pin {
+    Edge(u32),
+    Bit(bool),
+}
+
+fn is_pin(feed: Feed, pin: Pin) -> bool {
+    match (feed, pin) {
+        (Feed::Edge(edge), Pin::Edge(number)) => edge.get() == number,
+        (Feed::Tied(bit), Pin::Bit(wanted)) => bit == wanted,
+        _ => false,
+    }
+}
+
+// Its vertices in order.
+const VERTICES: [(VertexKind, &[Pin]); 6] = [
+    (VertexKind::Host, &[]),
+    (VertexKind::Input, &[]),
+    (VertexKind::Output, &[Pin::Edge(0)]),
+    (VertexKind::Gate(Kind::Not), &[Pin::Edge(1)]),
+    (VertexKind::Gate(Kind::Not), &[Pin::Edge(2)]),
+    (VertexKind::Gate(Kind::Xor), &[Pin::Edge(3), Pin::Edge(4)]),
+];
+
+fn are_pins(feeds: &[Feed], pins: &[Pin]) -> bool {
+    feeds.len() == pins.len()
+        && feeds
+            .iter()
+            .zip(pins)
+            .all(|(feed, pin)| is_pin(*feed, *pin))
 }
 
 // Whether the vertex of this number has this kind and these pins, and is pinned as its kind is.
-fn is_vertex(machine: &Machine, v: u32, kind: VertexKind, pins: &[Feed]) -> bool {
+fn is_vertex(machine: &Machine, v: u32, kind: VertexKind, pins: &[Pin]) -> bool {
     if v >= machine.vertex_count() {
         return false;
     }
     let vertex = machine.vertex(VertexId::new(v));
     let is_gate = matches!(kind, VertexKind::Gate(_));
     vertex.kind == kind
-        && vertex.pins.as_slice() == pins
+        && are_pins(vertex.pins.as_slice(), pins)
         && machine.is_pinned(VertexId::new(v)) == !is_gate
 }
 
@@ -103,13 +132,9 @@ fn is_vertex(machine: &Machine, v: u32, kind: VertexKind, pins: &[Feed]) -> bool
 fn vertices_by_number(rt: HostRuntime) {
     let machine = inverter_loop(&rt, rt.alloc());
     assert!(rt; machine.vertex_count() == 6);
-    let [e0, e1, e2, e3, e4] = [edge(0), edge(1), edge(2), edge(3), edge(4)];
-    assert!(rt; is_vertex(&machine, 0, VertexKind::Host, &[]));
-    assert!(rt; is_vertex(&machine, 1, VertexKind::Input, &[]));
-    assert!(rt; is_vertex(&machine, 2, VertexKind::Output, &[e0]));
-    assert!(rt; is_vertex(&machine, 3, VertexKind::Gate(Kind::Not), &[e1]));
-    assert!(rt; is_vertex(&machine, 4, VertexKind::Gate(Kind::Not), &[e2]));
-    assert!(rt; is_vertex(&machine, 5, VertexKind::Gate(Kind::Xor), &[e3, e4]));
+    for (v, (kind, pins)) in VERTICES.iter().enumerate() {
+        assert!(rt; is_vertex(&machine, v as u32, *kind, pins), "vertex {v}");
+    }
 }
 
 #[test]
@@ -254,11 +279,11 @@ fn memory_with_two_ports(rt: &impl Abort, alloc: Global) -> Machine {
 fn ports_of_a_memory(rt: HostRuntime) {
     let machine = memory_with_two_ports(&rt, rt.alloc());
     let memory = MemId::new(0);
-    let [zero, one] = [Feed::Tied(false), Feed::Tied(true)];
+    let [zero, one] = [Pin::Bit(false), Pin::Bit(true)];
     let read = VertexKind::Read { memory, port: 0 };
     assert!(rt; is_vertex(&machine, 1, read, &[one, zero]));
     let write = VertexKind::Write { memory, port: 0 };
-    let pins = [zero, one, one, zero, one, edge(0)];
+    let pins = [zero, one, one, zero, one, Pin::Edge(0)];
     assert!(rt; is_vertex(&machine, 2, write, &pins));
     assert!(rt; machine.edge_count() == 1 && machine.edge(EdgeId::new(0)).output == 1);
 }
