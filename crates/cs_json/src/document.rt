@@ -2,13 +2,13 @@
 use cs_base::{Sequence, Signal, Text};
 
 /// A document: its modules, in byte order of their names.
-#[derive(Debug, Drop)]
+#[derive(Drop)]
 pub struct Document {
     pub modules: Sequence<Module>,
 }
 
 /// A module; each of its lists is in byte order of names, without repeats.
-#[derive(Debug, Drop)]
+#[derive(Drop)]
 pub struct Module {
     pub name: Text,
     pub attributes: Sequence<Entry>,
@@ -18,7 +18,7 @@ pub struct Module {
 }
 
 /// A port, least significant bit first.
-#[derive(Debug, Drop)]
+#[derive(Drop)]
 pub struct PortDecl {
     pub name: Text,
     pub direction: Direction,
@@ -26,7 +26,7 @@ pub struct PortDecl {
 }
 
 /// A cell, whose `kind` is the name of its type.
-#[derive(Debug, Drop)]
+#[derive(Drop)]
 pub struct CellDecl {
     pub name: Text,
     pub kind: Text,
@@ -36,7 +36,7 @@ pub struct CellDecl {
 }
 
 /// A pin of a cell, least significant bit first; `output` is false where no direction is told.
-#[derive(Debug, Drop)]
+#[derive(Drop)]
 pub struct PinDecl {
     pub name: Text,
     pub bits: Sequence<Signal>,
@@ -44,7 +44,7 @@ pub struct PinDecl {
 }
 
 /// The name of some bits (Yosys: a netname), least significant bit first.
-#[derive(Debug, Drop)]
+#[derive(Drop)]
 pub struct NetDecl {
     pub name: Text,
     pub bits: Sequence<Signal>,
@@ -52,14 +52,14 @@ pub struct NetDecl {
 }
 
 /// An attribute or a parameter.
-#[derive(Debug, Drop)]
+#[derive(Drop)]
 pub struct Entry {
     pub name: Text,
     pub datum: Datum,
 }
 
 /// What an attribute or a parameter holds: digits as a text, or a whole number.
-#[derive(Debug, Drop)]
+#[derive(Drop)]
 pub enum Datum {
     Digits(Text),
     Number(i128),

@@ -179,10 +179,25 @@ fn first_name(alloc: Global, net: &Netlist) -> Result<usize, AllocError>
     Ok(1 + data_inputs.len() + outputs.len())
 }
 
+// The circuit of a wired netlist.
+#[tactic(auto, unfolding(crate::specs::Written::multiplied))]
+fn circuit_of(alloc: Global, wiring: &Wiring<'_>) -> Result<Circuit, AllocError>
+    ensures { IfOk result (λ circuit. circuit ≡ multiplied wiring.now.net.now wiring.now.contexts) }
+{
+    let net = wiring.net;
+    Ok(Circuit {
+        name: net.module_name().copy(alloc)?,
+        ports: written_ports(alloc, wiring, net.ports())?,
+        clock: written_clock(wiring),
+        first_name: first_name(alloc, net)?,
+        gates: written_gates(alloc, wiring, net.cells())?,
+        registers: registers(alloc, wiring)?,
+    })
+}
+
 /// The circuit of a netlist with each register C times in series, C being the number of contexts. What reads a
 /// register's output reads the last of its series, each of the series starts as the register does, and a bit that
 /// nothing drives is written as 0.
-#[tactic(auto, unfolding(crate::specs::Written::multiplied))]
 pub(crate) fn multiplied(
     alloc: Global,
     net: &Netlist,
@@ -192,12 +207,5 @@ pub(crate) fn multiplied(
     ensures { IfOk result (λ circuit. circuit ≡ multiplied net.now contexts) }
 {
     let wiring = Wiring::new(alloc, net, contexts)?;
-    Ok(Circuit {
-        name: net.module_name().copy(alloc)?,
-        ports: written_ports(alloc, &wiring, net.ports())?,
-        clock: written_clock(&wiring),
-        first_name: first_name(alloc, net)?,
-        gates: written_gates(alloc, &wiring, net.cells())?,
-        registers: registers(alloc, &wiring)?,
-    })
+    circuit_of(alloc, &wiring)
 }

@@ -9,6 +9,24 @@ use cs_base::{BitId, Contexts, Signal};
 use cs_net::{Netlist, Places};
 use std::alloc::{AllocError, Global};
 
+fn input_places(alloc: Global, net: &Netlist) -> Result<Places, AllocError>
+    ensures { IfOk result (λ places. places ≡ input_signals net.now) }
+{
+    Places::among(alloc, port_inputs(alloc, net.ports())?)
+}
+
+fn gate_places(alloc: Global, net: &Netlist) -> Result<Places, AllocError>
+    ensures { IfOk result (λ places. places ≡ gate_signals net.now) }
+{
+    Places::among(alloc, gate_outputs(alloc, net.cells())?)
+}
+
+fn register_places(alloc: Global, net: &Netlist) -> Result<Places, AllocError>
+    ensures { IfOk result (λ places. places ≡ register_outputs net.now) }
+{
+    Places::among(alloc, register_signals(alloc, "Q", net.cells())?)
+}
+
 /// The bits of a netlist by what drives them.
 #[derive(Drop)]
 pub(crate) struct Wiring<'a> {
@@ -35,15 +53,12 @@ impl<'a> Wiring<'a> {
         ensures of { IfOk result (λ wiring. wiring.net.now ≡ net.now) }
         ensures contexts { IfOk result (λ wiring. wiring.contexts ≡ contexts) }
     {
-        let inputs = port_inputs(alloc, net.ports())?;
-        let gates = gate_outputs(alloc, net.cells())?;
-        let registers = register_signals(alloc, "Q", net.cells())?;
         Ok(Wiring {
             net,
             contexts,
-            inputs: Places::among(alloc, inputs)?,
-            gates: Places::among(alloc, gates)?,
-            registers: Places::among(alloc, registers)?,
+            inputs: input_places(alloc, net)?,
+            gates: gate_places(alloc, net)?,
+            registers: register_places(alloc, net)?,
         })
     }
 

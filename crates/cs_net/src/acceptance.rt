@@ -48,7 +48,7 @@ fn make_draft(alloc: Global, top: &Module) -> Result<Draft, AllocError>
 }
 
 // An order of the netlist's elements, where gates and unclocked reads form no loop.
-fn arrange_cells(alloc: Global, top: &Module, draft: &Draft) -> Result<Sequence<u32>, NetError>
+fn arrange_cells(alloc: Global, top: &Module, draft: &Draft) -> Result<Sequence<usize>, NetError>
     requires readable { IsModule top.now }
     requires draft { IsDraftOf top.now draft.now }
     ensures elements { IfOk result (IsOrder (graph_of (elements_of (net_of top.now)))) }
@@ -69,7 +69,7 @@ fn arrange_cells(alloc: Global, top: &Module, draft: &Draft) -> Result<Sequence<
 }
 
 // An order of the netlist's elements, where none of the conditions 15 to 17 holds.
-fn check_late(alloc: Global, top: &Module, draft: &Draft) -> Result<Sequence<u32>, NetError>
+fn check_late(alloc: Global, top: &Module, draft: &Draft) -> Result<Sequence<usize>, NetError>
     requires readable { IsModule top.now }
     requires draft { IsDraftOf top.now draft.now }
     ensures sound { IfOk result (λ _. IsSound top.now) }
@@ -91,7 +91,7 @@ fn netlist_of(
     alloc: Global,
     top: &Module,
     draft: Draft,
-    order: Sequence<u32>,
+    order: Sequence<usize>,
 ) -> Result<Netlist, AllocError>
     requires readable { IsModule top.now }
     requires early { early_refusal top.now ≡ None }

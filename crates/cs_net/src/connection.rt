@@ -11,7 +11,7 @@ use cs_json::{CellDecl, PinDecl};
 use std::alloc::{AllocError, Global};
 
 /// What a bit of a cell's pin is for.
-#[derive(Clone, Copy, Debug, PartialEq, Eq)]
+#[derive(Clone, Copy)]
 pub enum Role {
     /// Read by the cell.
     Data,
@@ -149,16 +149,29 @@ fn pin_bits(
         .collect(alloc)
 }
 
+// The bits of the pins of cell i, by its clocks.
+fn bits_by_clocks(
+    alloc: Global,
+    i: usize,
+    cell: &CellDecl,
+    clocks: &PortClocks,
+) -> Result<Vec<PinBit>, AllocError>
+    requires { AreClocksOf cell.now clocks.now }
+    ensures { IfOk result (λ bits. bits.items ≡ bits_of_cell i cell.now) }
+{
+    let mut bits = Vec::new(alloc);
+    for pin in cell.pins.as_slice() {
+        bits.extend_from_slice(pin_bits(alloc, i, cell, clocks, pin)?.as_slice())?;
+    }
+    Ok(bits)
+}
+
 // The bits of the pins of cell i.
 fn cell_bits(alloc: Global, i: usize, cell: &CellDecl) -> Result<Vec<PinBit>, AllocError>
     ensures { IfOk result (λ bits. bits.items ≡ bits_of_cell i cell.now) }
 {
     let clocks = port_clocks(alloc, cell)?;
-    let mut bits = Vec::new(alloc);
-    for pin in cell.pins.as_slice() {
-        bits.extend_from_slice(pin_bits(alloc, i, cell, &clocks, pin)?.as_slice())?;
-    }
-    Ok(bits)
+    bits_by_clocks(alloc, i, cell, &clocks)
 }
 
 /// The bits of the pins of all cells but `$scopeinfo` cells.

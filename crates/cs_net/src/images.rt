@@ -8,7 +8,7 @@ use std::alloc::{AllocError, Global};
 
 /// One entry for each memory cell in order: None where it starts alike in every context, else one image for each
 /// context. An image has the bits of the memory's words; word i begins at bit i times the width.
-#[derive(Debug, Drop)]
+#[derive(Drop)]
 pub struct Images {
     pub of: Sequence<Option<Sequence<Sequence<bool>>>>,
 }

@@ -15,10 +15,10 @@ use cs_base::{Sequence, Text};
 use std::alloc::{AllocError, Global};
 use std::collections::HashMap;
 
-fn place_of_cell(elements: &[Element], vertex: u32) -> usize
+fn place_of_cell(elements: &[Element], vertex: usize) -> usize
     ensures { result ≡ place_of_cell elements.now vertex }
 {
-    match elements.get(vertex as usize) {
+    match elements.get(vertex) {
         Some(element) => element.cell,
         None => 0,
     }
@@ -28,7 +28,7 @@ fn place_of_cell(elements: &[Element], vertex: u32) -> usize
 fn places_of_cells(
     alloc: Global,
     elements: &[Element],
-    vertices: &[u32],
+    vertices: &[usize],
 ) -> Result<Vec<usize>, AllocError>
     ensures { IfOk result (λ places. places.items ≡ map (place_of_cell elements.now) vertices.now) }
 {
@@ -122,7 +122,7 @@ pub(crate) fn loop_names(
     alloc: Global,
     elements: &[Element],
     cells: &[Cell],
-    vertices: &[u32],
+    vertices: &[usize],
 ) -> Result<Sequence<Text>, AllocError>
     requires netlist { (net : Net) × AreOf net elements.now cells.now }
     requires order { AreInOrder (λ c. c.name) cells.now }

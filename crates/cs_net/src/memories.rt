@@ -130,6 +130,23 @@ pub(crate) fn shapes(alloc: Global, top: &Module) -> Result<Sequence<Option<MemS
     Ok(shapes)
 }
 
+// So many words of some digits.
+fn words_of(
+    alloc: Global,
+    digits: &[u8],
+    width: u32,
+    count: u32,
+) -> Result<Sequence<Sequence<bool>>, AllocError>
+    ensures { IfOk result (λ words. words
+        ≡ map (λ i. map (λ j. is_one digits.now (i * width + j)) (count_from 0 width)) (count_from 0 count)) }
+{
+    let mut words = Sequence::new(alloc);
+    for i in 0..count {
+        words.push(digits_part(alloc, digits, width, i)?)?;
+    }
+    Ok(words)
+}
+
 fn first_words(alloc: Global, cell: &CellDecl) -> Result<Sequence<Sequence<bool>>, AllocError>
     requires sizes { list_all (is_size cell.now) memory_sizes ≡ true }
     requires narrow { number_at cell.now (codes "ABITS") ≤ 20 }
@@ -139,12 +156,7 @@ fn first_words(alloc: Global, cell: &CellDecl) -> Result<Sequence<Sequence<bool>
     let address_bits = number_at(alloc, cell, "ABITS")?;
     let width = number_at(alloc, cell, "WIDTH")?;
     let digits = parameter(alloc, cell, "INIT")?;
-    let digits = digits.as_slice();
-    let mut words = Sequence::new(alloc);
-    for i in 0..size.min(1 << address_bits) {
-        words.push(digits_part(alloc, digits, width, i)?)?;
-    }
-    Ok(words)
+    words_of(alloc, digits.as_slice(), width, size.min(1 << address_bits))
 }
 
 // The words of a cell that is a memory.

@@ -21,7 +21,7 @@ use std::collections::HashMap;
 use std::marker::Model;
 
 /// A cell with its class and its pins, in order of their names.
-#[derive(Debug, Drop)]
+#[derive(Drop)]
 pub struct Cell {
     pub name: Text,
     pub class: Class,
@@ -64,14 +64,14 @@ fn pin_named<'a>(pins: &'a [PinBits], name: &str) -> Option<&'a PinBits>
 }
 
 /// A pin and what each of its bits is connected to, least significant first.
-#[derive(Debug, Drop)]
+#[derive(Drop)]
 pub struct PinBits {
     pub name: Text,
     pub bits: Sequence<Signal>,
 }
 
 /// A port and its bits, least significant first.
-#[derive(Debug, Drop)]
+#[derive(Drop)]
 pub struct Port {
     pub name: Text,
     pub direction: Direction,
@@ -79,7 +79,7 @@ pub struct Port {
 }
 
 /// The clock: its bit, and whether registers take their next values at its rising edge.
-#[derive(Clone, Copy, Debug)]
+#[derive(Clone, Copy)]
 pub struct Clock {
     pub bit: BitId,
     pub rising: bool,
@@ -96,7 +96,7 @@ pub struct Netlist {
     pub(crate) starts: Sequence<BitValue>,
     pub(crate) memories: Sequence<MemoryWords>,
     /// The numbers of the elements, each after those that drive its inputs.
-    pub(crate) order: Sequence<u32>,
+    pub(crate) order: Sequence<usize>,
     /// The starts by the numbers of their bits.
     pub(crate) start_values: HashMap<u32, bool>,
     /// For each cell that is a memory, where its words stand among the memories.
@@ -193,7 +193,7 @@ impl Netlist {
     /// The numbers of the netlist's elements, in an order in which each stands after those that drive its inputs. Element
     /// 0 is the data inputs; the others are numbered cell by cell from 1 on: a gate and a register are one each, a memory
     /// has one for each read port, in order. Registers and clocked reads depend on nothing.
-    pub fn order(&self) -> &[u32]
+    pub fn order(&self) -> &[usize]
         ensures { IsOrder (graph_of (elements_of self.now)) result.now }
     {
         self.order.as_slice()

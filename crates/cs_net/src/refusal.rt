@@ -3,7 +3,7 @@ ghost use Rattle.std.specs.Prelude.{◌≡◌, IfOk, None, nat_eq, ℕ};
 ghost use Rattle.std.specs.List.{list_any};
 ghost use Rattle.indexmap.specs.IndexSet.{contains};
 ghost use Rattle.cs_net.specs.Drivers.{is_bit};
-ghost use Rattle.cs_net.specs.Conditions.{bad_pins, clock_as_data, clock_of, driven_signals, early_refusal, input_bits, mixed_edges, of_clock, two_clocks};
+ghost use Rattle.cs_net.specs.Conditions.{bad_pins, clock_as_data, clock_not_input, clock_of, driven_signals, early_refusal, input_bits, memory_form, mixed_edges, of_clock, two_clocks};
 ghost use Rattle.cs_net.specs.PinBits.{bits_of_cells, clock_bits_of};
 ghost use Rattle.cs_net.specs.Refusal.{bit_refusal, class_refusal, clock_refusal, driver_refusal, state_refusal, wiring_refusal};
 
@@ -98,8 +98,7 @@ fn clock_refusal(
     requires pins { pins.now ≡ clock_bits_of top.now.cells }
     ensures { IfOk result (λ found. found ≡ clock_refusal top.now) }
 {
-    let inputs = input_set(alloc, top)?;
-    if let Some(error) = clock_not_input(top, pins, &inputs) {
+    if let Some(error) = stray_clock(alloc, top, pins)? {
         return Ok(Some(error));
     }
     if let Some(error) = other_clock(top, pins) {
@@ -118,6 +117,18 @@ fn input_set(alloc: Global, top: &Module) -> Result<IndexSet<u32>, AllocError>
     let numbers = input_numbers(alloc, top.ports.as_slice())?;
     let set = number_set(alloc, numbers.as_slice())?;
     Ok(set)
+}
+
+fn stray_clock(
+    alloc: Global,
+    top: &Module,
+    pins: &[ClockBit],
+) -> Result<Option<NetError>, AllocError>
+    requires { pins.now ≡ clock_bits_of top.now.cells }
+    ensures { IfOk result (λ found. found ≡ clock_not_input top.now) }
+{
+    let inputs = input_set(alloc, top)?;
+    Ok(clock_not_input(top, pins, &inputs))
 }
 
 /// The clock of a module.
@@ -192,9 +203,21 @@ fn state_refusal(
     requires bits { bits.now ≡ bits_of_cells top.now.cells }
     ensures { IfOk result (λ found. found ≡ state_refusal top.now) }
 {
-    if let Some(error) = two_starts(alloc, top)? {
-        return Ok(Some(error));
+    match two_starts(alloc, top)? {
+        Some(error) => Ok(Some(error)),
+        None => memory_refusal(alloc, top, bits),
     }
+}
+
+fn memory_refusal(
+    alloc: Global,
+    top: &Module,
+    bits: &[PinBit],
+) -> Result<Option<NetError>, AllocError>
+    requires pins { bad_pins top.now ≡ None }
+    requires bits { bits.now ≡ bits_of_cells top.now.cells }
+    ensures { IfOk result (λ found. found ≡ memory_form top.now) }
+{
     let driven = driven_set(alloc, top, bits)?;
     memory_form(alloc, top, &driven)
 }

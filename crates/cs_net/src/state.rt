@@ -2,21 +2,21 @@
 use cs_base::{BitId, Sequence, Text};
 
 /// What registers, clocked reads and memories hold between two clocks.
-#[derive(Debug, Drop)]
+#[derive(Drop)]
 pub struct Snapshot {
     pub bits: Sequence<BitValue>,
     pub memories: Sequence<MemoryWords>,
 }
 
 /// The value of a bit that a register or a clocked read drives.
-#[derive(Clone, Copy, Debug)]
+#[derive(Clone, Copy)]
 pub struct BitValue {
     pub bit: BitId,
     pub value: bool,
 }
 
 /// The words of the memory cell of a name, each least significant bit first.
-#[derive(Debug, Drop)]
+#[derive(Drop)]
 pub struct MemoryWords {
     pub name: Text,
     pub words: Sequence<Sequence<bool>>,

@@ -57,17 +57,23 @@ fn evaluate(held: &Held, row: &[bool], part: &Part, values: &mut [bool])
     }
 }
 
-fn evaluate_at(held: &Held, row: &[bool], parts: &[Part], v: u32, values: &mut [bool])
+fn evaluate_at(held: &Held, row: &[bool], parts: &[Part], v: usize, values: &mut [bool])
     ensures { values.new ≡ evaluated_at held.now row.now parts.now values.old v }
 {
-    if let Some(part) = parts.get(v as usize) {
+    if let Some(part) = parts.get(v) {
         evaluate(held, row, part, values);
     }
 }
 
 /// Drives the bits of all parts in an order.
 #[tactic(auto, unfolding(crate::specs::Clock::settled))]
-pub(crate) fn settle(held: &Held, row: &[bool], parts: &[Part], order: &[u32], values: &mut [bool])
+pub(crate) fn settle(
+    held: &Held,
+    row: &[bool],
+    parts: &[Part],
+    order: &[usize],
+    values: &mut [bool],
+)
     ensures { values.new ≡ settled held.now row.now parts.now order.now values.old }
 {
     store(values, 0, false);

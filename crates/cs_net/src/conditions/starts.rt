@@ -1,5 +1,5 @@
 // Initial values of registers: no bit is given both 0 and 1.
-ghost use Rattle.std.specs.Prelude.{◌≡◌, ◌&&◌, ℕ, ◌==◌, filter, filter_map, IfOk, nat_eq};
+ghost use Rattle.std.specs.Prelude.{◌≡◌, ℕ, ◌==◌, filter, filter_map, IfOk, nat_eq};
 ghost use Rattle.std.specs.List.{enumerate_from, flat_map, list_any};
 ghost use Rattle.indexmap.specs.IndexSet.{contains};
 ghost use Rattle.cs_net.specs.Conditions.{has_two_starts, is_register, register_bits, two_starts};
@@ -85,18 +85,14 @@ fn register_numbers(alloc: Global, cells: &[CellDecl]) -> Result<Vec<u32>, Alloc
     Ok(numbers)
 }
 
-fn in_both(
-    alloc: Global,
-    numbers: &[u32],
-    zeros: &IndexSet<u32>,
-    ones: &IndexSet<u32>,
-) -> Result<Vec<u32>, AllocError>
-    ensures { IfOk result (λ both. both.items ≡ filter (λ b. contains nat_eq ones.now b && contains nat_eq zeros.now b) numbers.now) }
+// Those of some numbers that are in a set.
+fn in_set(alloc: Global, numbers: &[u32], set: &IndexSet<u32>) -> Result<Vec<u32>, AllocError>
+    ensures { IfOk result (λ found. found.items ≡ filter (contains nat_eq set.now) numbers.now) }
 {
     numbers
         .iter()
         .copied()
-        .filter(|number| ones.contains(number) && zeros.contains(number))
+        .filter(|number| set.contains(number))
         .collect(alloc)
 }
 
@@ -108,15 +104,28 @@ fn given_set(alloc: Global, value: bool, nets: &[NetDecl]) -> Result<IndexSet<u3
     number_set(alloc, numbers.as_slice())
 }
 
+// Those of some bits to which nets give this initial value.
+fn given_among(
+    alloc: Global,
+    value: bool,
+    nets: &[NetDecl],
+    numbers: &[u32],
+) -> Result<Vec<u32>, AllocError>
+    ensures { IfOk result (λ found. found.items
+        ≡ filter (λ b. list_any (λ a. a == b) (flat_map (numbers_given value) nets.now)) numbers.now) }
+{
+    let given = given_set(alloc, value, nets)?;
+    in_set(alloc, numbers, &given)
+}
+
 // The registers' bits that are given both 0 and 1.
 fn doubly_given(alloc: Global, top: &Module) -> Result<Vec<u32>, AllocError>
     ensures { IfOk result (λ bits. bits.items ≡ filter (has_two_starts top.now) (register_bits top.now)) }
 {
-    let zeros = given_set(alloc, false, top.nets.as_slice())?;
-    let ones = given_set(alloc, true, top.nets.as_slice())?;
+    let nets = top.nets.as_slice();
     let registers = register_numbers(alloc, top.cells.as_slice())?;
-    let both = in_both(alloc, registers.as_slice(), &zeros, &ones)?;
-    Ok(both)
+    let zeros = given_among(alloc, false, nets, registers.as_slice())?;
+    given_among(alloc, true, nets, zeros.as_slice())
 }
 
 /// Refuses a register whose bit Q is given both 0 and 1 as its initial value, the least such bit.

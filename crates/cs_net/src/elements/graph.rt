@@ -1,5 +1,5 @@
 // The graph of a netlist's elements, and its order or a loop of it.
-ghost use Rattle.std.specs.Prelude.{◌≡◌, ◌<◌, ◌^◌, ℕ, Some, None, IfOk, OnOk, filter_map, if◌then◌else◌, length, nat_eq};
+ghost use Rattle.std.specs.Prelude.{◌≡◌, ℕ, Some, None, IfOk, OnOk, filter_map, if◌then◌else◌, length, nat_eq};
 ghost use Rattle.std.specs.HashMap.{get};
 ghost use Rattle.std.specs.Option.{option_and_then, option_or};
 ghost use Rattle.cs_order.specs.Arrangements.{IfLoop, IfOrder};
@@ -20,9 +20,9 @@ use std::collections::HashMap;
 
 // Notes an element for each of its outputs, unless an earlier one drives that.
 fn note_outputs(
-    owners: &mut HashMap<u32, u32>,
+    owners: &mut HashMap<u32, usize>,
     outputs: &[Signal],
-    element: u32,
+    element: usize,
 ) -> Result<(), AllocError>
     ensures { OnOk result ((b : ℕ) → get nat_eq owners.new b
         ≡ option_or (get nat_eq owners.old b) (if holds_bit b outputs.now then Some element else None)) }
@@ -34,18 +34,17 @@ fn note_outputs(
 }
 
 // The number of the first element that drives each bit.
-fn owners(alloc: Global, elements: &[Element]) -> Result<HashMap<u32, u32>, AllocError>
-    requires { length elements.now < 2 ^ 32 }
+fn owners(alloc: Global, elements: &[Element]) -> Result<HashMap<u32, usize>, AllocError>
     ensures { IfOk result (λ owners. (b : ℕ) → get nat_eq owners b ≡ owner elements.now b) }
 {
     let mut owners = HashMap::new(alloc);
     for (number, element) in elements.iter().enumerate() {
-        note_outputs(&mut owners, element.outputs.as_slice(), number as u32)?;
+        note_outputs(&mut owners, element.outputs.as_slice(), number)?;
     }
     Ok(owners)
 }
 
-fn owner(owners: &HashMap<u32, u32>, signal: Signal) -> Option<u32>
+fn owner(owners: &HashMap<u32, usize>, signal: Signal) -> Option<usize>
     ensures { result ≡ option_and_then (get nat_eq owners.now) (number_in signal) }
 {
     match number_in(signal) {
@@ -57,9 +56,9 @@ fn owner(owners: &HashMap<u32, u32>, signal: Signal) -> Option<u32>
 // The numbers of the elements that drive some signals.
 fn sources(
     alloc: Global,
-    owners: &HashMap<u32, u32>,
+    owners: &HashMap<u32, usize>,
     inputs: &[Signal],
-) -> Result<Vec<u32>, AllocError>
+) -> Result<Vec<usize>, AllocError>
     ensures { IfOk result (λ sources. sources.items
         ≡ filter_map (λ s. option_and_then (get nat_eq owners.now) (number_in s)) inputs.now) }
 {
@@ -69,21 +68,32 @@ fn sources(
         .collect(alloc)
 }
 
-// Each element depends on those that drive its inputs.
-fn graph(alloc: Global, elements: &[Element]) -> Result<Dependencies, AllocError>
-    requires { length elements.now < 2 ^ 32 }
+// Each element depends on the owners of its inputs.
+fn graph_over(
+    alloc: Global,
+    elements: &[Element],
+    owners: &HashMap<u32, usize>,
+) -> Result<Dependencies, AllocError>
+    requires { (b : ℕ) → get nat_eq owners.now b ≡ owner elements.now b }
     ensures { IfOk result (λ graph. graph ≡ graph_of elements.now) }
 {
-    let owners = owners(alloc, elements)?;
     let mut graph = Dependencies::new(alloc);
     for element in elements {
-        graph.add_vertex(sources(alloc, &owners, element.inputs.as_slice())?.as_slice())?;
+        graph.add_vertex(sources(alloc, owners, element.inputs.as_slice())?.as_slice())?;
     }
     Ok(graph)
 }
 
+// Each element depends on those that drive its inputs.
+fn graph(alloc: Global, elements: &[Element]) -> Result<Dependencies, AllocError>
+    ensures { IfOk result (λ graph. graph ≡ graph_of elements.now) }
+{
+    let owners = owners(alloc, elements)?;
+    graph_over(alloc, elements, &owners)
+}
+
 /// An order of the elements in which each stands after those that drive its inputs, which orders the bits
-/// too, or a loop of them. It errs only where memory runs out, for 2^32 elements and more in any case.
+/// too, or a loop of them. It errs only where memory runs out.
 pub(crate) fn arrange_elements(
     alloc: Global,
     elements: &[Element],
@@ -93,8 +103,5 @@ pub(crate) fn arrange_elements(
         IfOrder a (λ _. (net : Net) → elements.now ≡ elements_of net → HasOrder net)) }
     ensures loop_found { IfOk result (λ a. IfLoop a (IsLoop (graph_of elements.now))) }
 {
-    if elements.len() > u32::MAX as usize {
-        return Err(AllocError);
-    }
     arrange(alloc, &graph(alloc, elements)?)
 }

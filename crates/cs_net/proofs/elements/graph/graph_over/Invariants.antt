@@ -1,6 +1,6 @@
 use Rattle.std.proofs.Common.{◌≡◌, ◌++◌, drop, length, map}
 use Rattle.cs_net.specs.Elements.{sources}
-use Rattle.cs_net.proofs.elements.graph.graph.Given as goal
+use Rattle.cs_net.proofs.elements.graph.graph_over.Given as goal
 
 -- the vertices that are left come after those that are added
 abbrev pub invariant-loop-element : goal.invariant-loop-element
