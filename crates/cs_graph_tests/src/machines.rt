@@ -83,57 +83,44 @@ fn edges_by_vertex_and_pin(rt: HostRuntime) {
     }
 }
 
-// What a pin reads: the edge of a number, or a bit.
-#[derive(Clone, Copy)]
-enum Pin {
-    Edge(u32),
-    Bit(bool),
-}
-
-fn is_pin(feed: Feed, pin: Pin) -> bool {
-    match (feed, pin) {
-        (Feed::Edge(edge), Pin::Edge(number)) => edge.get() == number,
-        (Feed::Tied(bit), Pin::Bit(wanted)) => bit == wanted,
-        _ => false,
+// Whether these are so many edges, numbered from the first.
+fn are_edges(pins: &[Feed], first: u32, count: usize) -> bool {
+    let mut wanted = first;
+    for pin in pins {
+        if !matches!(pin, Feed::Edge(edge) if edge.get() == wanted) {
+            return false;
+        }
+        wanted = wanted.saturating_add(1);
     }
+    pins.len() == count
 }
 
-// Its vertices in order.
-const VERTICES: [(VertexKind, &[Pin]); 6] = [
-    (VertexKind::Host, &[]),
-    (VertexKind::Input, &[]),
-    (VertexKind::Output, &[Pin::Edge(0)]),
-    (VertexKind::Gate(Kind::Not), &[Pin::Edge(1)]),
-    (VertexKind::Gate(Kind::Not), &[Pin::Edge(2)]),
-    (VertexKind::Gate(Kind::Xor), &[Pin::Edge(3), Pin::Edge(4)]),
-];
+// The first edge of each vertex, and how many it has.
+const EDGES: [(u32, usize); 6] = [(0, 0), (0, 0), (0, 1), (1, 1), (2, 1), (3, 2)];
 
-fn are_pins(feeds: &[Feed], pins: &[Pin]) -> bool {
-    feeds.len() == pins.len()
-        && feeds
-            .iter()
-            .zip(pins)
-            .all(|(feed, pin)| is_pin(*feed, *pin))
-}
-
-// Whether the vertex of this number has this kind and these pins, and is pinned as its kind is.
-fn is_vertex(machine: &Machine, v: u32, kind: VertexKind, pins: &[Pin]) -> bool {
-    if v >= machine.vertex_count() {
-        return false;
+#[test]
+fn edges_of_vertices(rt: HostRuntime) {
+    let machine = inverter_loop(&rt, rt.alloc());
+    assert!(rt; machine.vertex_count() == 6);
+    for (v, (first, count)) in EDGES.iter().enumerate() {
+        let vertex = machine.vertex(VertexId::new(v as u32));
+        assert!(rt;
+            are_edges(vertex.pins.as_slice(), *first, *count),
+            "vertex {v}"
+        );
     }
-    let vertex = machine.vertex(VertexId::new(v));
-    let is_gate = matches!(kind, VertexKind::Gate(_));
-    vertex.kind == kind
-        && are_pins(vertex.pins.as_slice(), pins)
-        && machine.is_pinned(VertexId::new(v)) == !is_gate
 }
 
 #[test]
-fn vertices_by_number(rt: HostRuntime) {
+fn kinds_of_vertices(rt: HostRuntime) {
     let machine = inverter_loop(&rt, rt.alloc());
     assert!(rt; machine.vertex_count() == 6);
-    for (v, (kind, pins)) in VERTICES.iter().enumerate() {
-        assert!(rt; is_vertex(&machine, v as u32, *kind, pins), "vertex {v}");
+    assert!(rt; machine.vertex(VertexId::new(0)).kind == VertexKind::Host);
+    for (place, kind) in KINDS.iter().enumerate() {
+        let v = VertexId::new(place as u32 + 1);
+        assert!(rt; machine.vertex(v).kind == *kind, "vertex {place}");
+        let is_gate = matches!(kind, VertexKind::Gate(_));
+        assert!(rt; machine.is_pinned(v) == !is_gate, "vertex {place}");
     }
 }
 
@@ -275,17 +262,30 @@ fn memory_with_two_ports(rt: &impl Abort, alloc: Global) -> Machine {
     builder.finish(alloc).expect(rt, "a machine")
 }
 
+// Whether the pins but the last are tied to these bits.
+fn are_tied(pins: &[Feed], bits: &[bool]) -> bool {
+    for (pin, bit) in pins.iter().zip(bits) {
+        if !matches!(pin, Feed::Tied(tied) if tied == bit) {
+            return false;
+        }
+    }
+    true
+}
+
 #[test]
 fn ports_of_a_memory(rt: HostRuntime) {
     let machine = memory_with_two_ports(&rt, rt.alloc());
+    assert!(rt; machine.vertex_count() == 3 && machine.edge_count() == 1);
     let memory = MemId::new(0);
-    let [zero, one] = [Pin::Bit(false), Pin::Bit(true)];
-    let read = VertexKind::Read { memory, port: 0 };
-    assert!(rt; is_vertex(&machine, 1, read, &[one, zero]));
-    let write = VertexKind::Write { memory, port: 0 };
-    let pins = [zero, one, one, zero, one, Pin::Edge(0)];
-    assert!(rt; is_vertex(&machine, 2, write, &pins));
-    assert!(rt; machine.edge_count() == 1 && machine.edge(EdgeId::new(0)).output == 1);
+    let read = machine.vertex(VertexId::new(1));
+    assert!(rt; read.kind == VertexKind::Read { memory, port: 0 });
+    assert!(rt; read.pins.len() == 2 && are_tied(read.pins.as_slice(), &[true, false]));
+    let write = machine.vertex(VertexId::new(2));
+    assert!(rt; write.kind == VertexKind::Write { memory, port: 0 });
+    let bits = [false, true, true, false, true];
+    assert!(rt; write.pins.len() == 6 && are_tied(write.pins.as_slice(), &bits));
+    assert!(rt; matches!(write.pins.as_slice()[5], Feed::Edge(edge) if edge.get() == 0));
+    assert!(rt; machine.edge(EdgeId::new(0)).output == 1);
 }
 
 fn is_memory_of_four_words(kept: &Memory) -> bool {
