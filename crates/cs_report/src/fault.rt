@@ -11,7 +11,7 @@ use cs_net::NetError;
 use std::alloc::{AllocError, Global};
 
 /// What a refused run tells.
-#[derive(Debug, Drop)]
+#[derive(Drop)]
 pub enum Fault {
     /// There was no memory.
     NoMemory,

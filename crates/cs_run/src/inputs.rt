@@ -1,7 +1,7 @@
 // Reads the files of a command.
-ghost use Rattle.std.specs.Prelude.{◌≡◌};
-ghost use Rattle.cs_run.specs.Outcomes.{ReadsInput, ReadsInputs};
-ghost use Rattle.cs_run.specs.declared.inputs.Stop.TheVariants.{OutOfMemory};
+ghost use Rattle.std.specs.Prelude.{◌≡◌, IfErr, IfOk};
+ghost use Rattle.cs_run.specs.Outcomes.{ReadsInput, ReadsInputs, overlong, unread};
+ghost use Rattle.cs_run.specs.declared.inputs.Stop.TheVariants.{Answered, OutOfMemory};
 
 use crate::reason::{Reason, refuse_for};
 use crate::reply::{Reply, refuse};
@@ -36,24 +36,44 @@ impl<T: Drop> From<AllocFailed<T>> for Stop {
     }
 }
 
+impl Stop {
+    // A refusal ends the command, and so does want of memory for it.
+    pub(crate) fn by(refusal: Result<Reply, AllocError>) -> Self
+        ensures answered { IfOk refusal (λ reply. result ≡ Answered reply) }
+        ensures memory { IfErr refusal (λ _. result ≡ OutOfMemory) }
+    {
+        match refusal {
+            Ok(reply) => Stop::Answered(reply),
+            Err(AllocError) => Stop::OutOfMemory,
+        }
+    }
+}
+
 /// The bytes of a file of a command, at most 67,108,864. A failed read and a longer file end the command.
 pub fn read_input<S: Store>(alloc: Global, name: &Text, store: &mut S) -> Result<Vec<u8>, Stop>
     ensures { ReadsInput (S.state store.old) (S.state store.new) name.now result }
 {
     match store.read(alloc, name.as_str(), MOST_BYTES) {
         Ok(bytes) => Ok(bytes),
-        Err(StoreError::Failed) => {
-            let fault = Fault::CannotRead(name.copy(alloc)?);
-            let reply = refuse(alloc, Status::ReadFault, &fault)?;
-            Err(Stop::Answered(reply))
-        }
-        Err(StoreError::TooLong { .. }) => {
-            let reason = Reason::TooLong(name.copy(alloc)?);
-            let reply = refuse_for(alloc, reason)?;
-            Err(Stop::Answered(reply))
-        }
+        Err(StoreError::Failed) => Err(Stop::by(unread(alloc, name))),
+        Err(StoreError::TooLong { .. }) => Err(Stop::by(overlong(alloc, name))),
         Err(StoreError::NoMemory) => Err(Stop::OutOfMemory),
     }
+}
+
+// The refusal of a file that can't be read.
+fn unread(alloc: Global, name: &Text) -> Result<Reply, AllocError>
+    ensures { IfOk result (λ reply. reply ≡ unread name.now) }
+{
+    let fault = Fault::CannotRead(name.copy(alloc)?);
+    refuse(alloc, Status::ReadFault, &fault)
+}
+
+// The refusal of a file that is too long.
+fn overlong(alloc: Global, name: &Text) -> Result<Reply, AllocError>
+    ensures { IfOk result (λ reply. reply ≡ overlong name.now) }
+{
+    refuse_for(alloc, Reason::TooLong(name.copy(alloc)?))
 }
 
 /// The bytes of the files of a command, read in order up to the first that ends it.

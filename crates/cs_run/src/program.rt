@@ -1,5 +1,5 @@
 // The top call.
-ghost use Rattle.std.specs.Prelude.{◌≡◌, ◌⊎◌, ℕ, List, [], ◌∷◌, Contains, Err, IsSome, Ok, Some};
+ghost use Rattle.std.specs.Prelude.{◌≡◌, ◌⊎◌, ℕ, List, [], ◌∷◌, Contains, Err, IfOk, IsSome, Ok, Some};
 ghost use Rattle.cs_words.specs.declared.command.Command.{Command};
 ghost use Rattle.cs_words.specs.declared.command.Command.TheVariants.{Mix, Part, Sim, Slow};
 ghost use Rattle.cs_words.specs.declared.command.MixWords.{MixWords};
@@ -7,6 +7,7 @@ ghost use Rattle.cs_words.specs.declared.command.PartWords.{PartWords};
 ghost use Rattle.cs_words.specs.declared.command.SimWords.{SimWords};
 ghost use Rattle.cs_words.specs.declared.command.SlowWords.{SlowWords};
 ghost use Rattle.cs_words.specs.declared.read.WordError.{WordError};
+ghost use Rattle.cs_words.specs.declared.read.WordError.TheVariants.{BadWords, NoCommand};
 ghost use Rattle.cs_words.specs.Commands.{texts, command_of, IsWithin};
 ghost use Rattle.cs_run.specs.declared.reason.Reason.{Reason};
 ghost use Rattle.cs_run.specs.declared.reply.Reply.{Reply as ReplyOf};
@@ -14,7 +15,7 @@ ghost use Rattle.cs_run.specs.declared.status.Status.TheVariants.{DocumentFault,
 ghost use Rattle.cs_run.specs.Answers.{Completes, HasReason};
 ghost use Rattle.cs_run.specs.Bytes.{BytesIsolate};
 ghost use Rattle.cs_run.specs.Mix.{PartsGiveBack};
-ghost use Rattle.cs_run.specs.Outcomes.{world, HasOutcome, HasOutcomeOf, Ran, RanOutOfMemory, RefusedWords, RefusedInput, CouldNotRead, CouldNotWrite, write_names};
+ghost use Rattle.cs_run.specs.Outcomes.{world, HasOutcome, HasOutcomeOf, Ran, RanOutOfMemory, RefusedWords, RefusedInput, CouldNotRead, CouldNotWrite, misused, write_names};
 ghost use Rattle.cs_run.specs.Promises.{file_in, OthersStay, HasInput, HasStreams, HasWritten, CouldNotWriteOut, HasResponded, CouldNotRespond, HasMixed, CouldNotWriteMixed, HasParted, CouldNotPutPart, HasNoFault};
 ghost use Rattle.cs_run.specs.Reasons.{status_of};
 ghost use Rattle.cs_run.specs.Slow.{IsBuilt};
@@ -29,6 +30,7 @@ use cs_base::Text;
 use cs_io::{Sink, Store};
 use cs_report::Fault;
 use cs_words::{WordError, read_words};
+use std::alloc::{AllocError, Global};
 
 /// Does what the words after the program's name say, and answers the exit status: 0 done, 1 want of memory,
 /// 2 usage, 3 read fault, 4 write fault, 5 document fault, 6 netlist fault, 8 limit, 11 stimulus fault, 99 not built.
@@ -148,14 +150,22 @@ fn answer<R: AllocGlobal, S: Store>(rt: &R, words: &[String], store: &mut S) -> 
     let alloc = rt.alloc();
     match read_words(alloc, words) {
         Ok(command) => answer_command(alloc, &command, store),
-        Err(WordError::NoCommand) => {
-            let reply = refuse(alloc, Status::Usage, &Fault::NoCommand)?;
-            Err(Stop::Answered(reply))
-        }
-        Err(WordError::BadWords { command }) => {
-            let reply = refuse(alloc, Status::Usage, &Fault::WordsOf(command))?;
-            Err(Stop::Answered(reply))
-        }
+        Err(WordError::NoCommand) => Err(Stop::by(no_command(alloc))),
+        Err(WordError::BadWords { command }) => Err(Stop::by(bad_words(alloc, command))),
         Err(WordError::NoMemory) => Err(Stop::OutOfMemory),
     }
+}
+
+// The refusal of words that name no command.
+fn no_command(alloc: Global) -> Result<Reply, AllocError>
+    ensures { IfOk result (λ reply. reply ≡ misused NoCommand) }
+{
+    refuse(alloc, Status::Usage, &Fault::NoCommand)
+}
+
+// The refusal of words behind the name of this command.
+fn bad_words(alloc: Global, command: Text) -> Result<Reply, AllocError>
+    ensures { IfOk result (λ reply. reply ≡ misused (BadWords command)) }
+{
+    refuse(alloc, Status::Usage, &Fault::WordsOf(command))
 }

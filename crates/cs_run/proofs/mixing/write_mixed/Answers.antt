@@ -1,6 +1,4 @@
 use Rattle.std.proofs.Common.{◌∙◌, ap, inl, sym}
-use Rattle.cs_report.specs.declared.fault.Fault.TheVariants.{CannotWrite}
-use Rattle.cs_report.specs.FaultLines.{fault_line}
 use Rattle.cs_stream.specs.Printing.{response_text}
 use Rattle.cs_run.specs.Mix.{AnswersMix}
 use Rattle.cs_run.specs.Replies.{writing}
@@ -20,7 +18,7 @@ returns c =
       record {
         text = text;
         mixed = record { faultless = c.requires.faultless; is = c.in_ok-text.ensures.text ∙ ap response_text c.requires.are };
-        is = ap (λ line. writing words.output text line) (c.in_ok-line.ensures ∙ ap (λ name. fault_line (CannotWrite name)) c.in_ok-copy.ensures);
+        is = ap (λ line. writing words.output text line) c.in_ok-line.ensures;
       },
       λ other mixed. gives_back streams rows other c.requires (mixed.is ∙ sym (ap response_text c.requires.are))
           (own_faultless rows law.faultless law.width) law.rows,
