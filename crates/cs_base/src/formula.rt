@@ -71,3 +71,11 @@ impl Formula {
 pub struct Derivation {
     pub lines: Sequence<Clause>,
 }
+
+fn crosses_threads<T: Send + Sync>(_: &T) {}
+
+// Formulas and derivations go from thread to thread.
+fn formulas_cross_threads(formula: &Formula, derivation: &Derivation) {
+    crosses_threads(formula);
+    crosses_threads(derivation);
+}

@@ -16,6 +16,3 @@ pub use limit::{Counted, LimitFault};
 pub use sequence::Sequence;
 pub use signal::Signal;
 pub use text::Text;
-
-#[cfg(test)]
-mod tests;

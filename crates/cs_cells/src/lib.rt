@@ -13,6 +13,3 @@ pub use class::{Class, class_of};
 pub use gate::Kind;
 pub use memory::{MemShape, ReadShape};
 pub use register::{FfKind, ResetKind};
-
-#[cfg(test)]
-mod tests;

@@ -18,6 +18,3 @@ pub use error::DiffError;
 pub use laws::{greatest_exists, greatest_is_high, lattice, least_is_low, no_negative_loop};
 pub use least::floors;
 pub use system::{Constraint, System};
-
-#[cfg(test)]
-mod tests;

@@ -23,6 +23,3 @@ pub use error::DocError;
 pub use laws::reads_back;
 pub use print::print_document;
 pub use read::read_document;
-
-#[cfg(test)]
-mod tests;

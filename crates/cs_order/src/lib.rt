@@ -10,6 +10,3 @@ mod topological;
 pub use dependencies::Dependencies;
 pub use laws::{loop_from_any, no_loop_in_order, places_in_order};
 pub use topological::{Arrangement, arrange};
-
-#[cfg(test)]
-mod tests;

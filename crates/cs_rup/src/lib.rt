@@ -14,6 +14,3 @@ mod values;
 pub use checker::Checker;
 pub use derivation::check;
 pub use laws::no_model;
-
-#[cfg(test)]
-mod tests;

@@ -16,6 +16,3 @@ pub use parting::part;
 pub use printing::print_response;
 pub use reading::{read_stimulus, width_of};
 pub use stimulus::Stimulus;
-
-#[cfg(test)]
-mod tests;

@@ -8,6 +8,3 @@ mod read;
 
 pub use command::{Command, MixWords, PartWords, SimWords, SlowWords};
 pub use read::{WordError, read_words};
-
-#[cfg(test)]
-mod tests;

@@ -1,9 +1,9 @@
 // Documents read and printed, against texts that were written by hand or by Yosys.
-use crate::{Datum, Direction, DocError, Document, Module, print_document, read_document};
-use cs_base::Signal;
+use cs_base::{BitId, Signal};
+use cs_json::{
+    CellDecl, Datum, Direction, DocError, Module, NetDecl, PortDecl, print_document, read_document,
+};
 use std::alloc::Global;
-use std::process::Abort;
-use std::test::Fail;
 
 // One register with the start 1.
 const ONE_REGISTER: &str =
@@ -50,83 +50,41 @@ const TWO_REGISTERS_ANOTHER_WAY: &str =
     : 1}}, \"attributes\": {\"top\": \"00000000000000000000000000000001\", \"src\": [\"x\
     \"]}}}, \"creator\": \"another program\"}";
 
-fn is_not_json(alloc: Global, text: &str) -> bool {
-    matches!(
-        read_document(alloc, text.as_bytes()),
-        Err(DocError::NotJson)
-    )
-}
-
-fn assert_refused(rt: &impl Abort, alloc: Global, text: &str, place: &str) {
-    match read_document(alloc, text.as_bytes()) {
-        Err(DocError::BadShape { at }) => assert_eq!(rt; at.path.as_str(), place),
-        _ => panic!(rt; "not refused: {text}"),
-    }
-}
-
-fn only_module(doc: &Document) -> Result<&Module, Fail> {
-    Ok(doc.modules.as_slice().first().ok_or("a module")?)
+fn is_not_json(alloc: Global, bytes: &[u8]) -> bool {
+    matches!(&read_document(alloc, bytes), Err(DocError::NotJson))
 }
 
 #[test]
-fn one_register_is_read(rt: HostRuntime) -> Result<(), Fail> {
-    let doc = read_document(rt.alloc(), ONE_REGISTER.as_bytes())?;
-    let module = only_module(&doc)?;
-    assert_eq!(rt; module.name.as_str(), "top");
-    assert_eq!(rt; module.ports.len(), 3);
-    let port = module.ports.as_slice().first().ok_or("a port")?;
-    assert_eq!(rt; port.name.as_str(), "clk");
-    assert_eq!(rt; port.direction, Direction::Input);
-    let cell = module.cells.as_slice().first().ok_or("a cell")?;
-    assert_eq!(rt; cell.kind.as_str(), "$_DFF_P_");
-    let pin = cell.pins.as_slice().last().ok_or("a pin")?;
-    assert_eq!(rt; pin.name.as_str(), "Q");
-    let bit = pin.bits.as_slice().first().ok_or("a bit")?;
-    assert!(rt; matches!(bit, Signal::Bit(bit) if bit.get() == 4));
-    let net = module.nets.as_slice().first().ok_or("a netname")?;
-    let init = net.attributes.as_slice().first().ok_or("an attribute")?;
-    assert_eq!(rt; init.name.as_str(), "init");
-    assert!(rt; matches!(&init.datum, Datum::Digits(digits) if digits.as_str() == "1"));
-    Ok(())
-}
-
-#[test]
-fn broken_and_empty_documents(rt: HostRuntime) -> Result<(), Fail> {
-    let alloc = rt.alloc();
-    assert_eq!(rt; CUT_INVERTER.len(), 60);
-    assert!(rt; is_not_json(alloc, CUT_INVERTER));
-    assert!(rt; is_not_json(alloc, ""));
-    assert_refused(&rt, alloc, "{\"modules\":[]}", "/modules");
-    let none = read_document(alloc, b"{\"modules\":{}}")?;
-    assert_eq!(rt; none.modules.len(), 0);
-    Ok(())
-}
-
-#[test]
-fn cut_and_deep_input(rt: HostRuntime) -> Result<(), Fail> {
+fn cut_documents(rt: HostRuntime) {
+    assert!(rt; CUT_INVERTER.len() == 60);
+    assert!(rt; is_not_json(rt.alloc(), CUT_INVERTER.as_bytes()));
     let bytes = ONE_REGISTER.as_bytes();
-    for len in 0..673 {
-        let cut = bytes.get(..len).ok_or("a cut")?;
-        let read = read_document(rt.alloc(), cut);
-        assert!(rt; matches!(read, Err(DocError::NotJson)), "at {len}");
+    for len in 0..bytes.len() {
+        assert!(rt; is_not_json(rt.alloc(), &bytes[..len]), "{len} bytes");
     }
-    let mut deep = String::new(rt.alloc());
-    for _ in 0..200 {
-        deep.push('[')?;
-    }
-    for _ in 0..200 {
-        deep.push(']')?;
-    }
-    assert!(rt; is_not_json(rt.alloc(), deep.as_str()));
-    Ok(())
 }
 
 #[test]
-fn refused_places(rt: HostRuntime) -> Result<(), Fail> {
-    let alloc = rt.alloc();
+fn lists_in_each_other(rt: HostRuntime) {
+    let mut deep = vec![in rt.alloc(); b'['; 200].expect(&rt, "200 lists");
+    deep.extend_from_slice(&[b']'; 200])
+        .expect(&rt, "200 lists");
+    assert!(rt; is_not_json(rt.alloc(), deep.as_slice()));
+}
+
+fn is_refused_at(alloc: Global, text: &str, place: &str) -> bool {
+    match read_document(alloc, text.as_bytes()) {
+        Err(DocError::BadShape { at }) => at.path.as_str() == place,
+        _ => false,
+    }
+}
+
+#[test]
+fn refused_places(rt: HostRuntime) {
     for (text, place) in [
         ("[]", ""),
         ("{}", "/modules"),
+        ("{\"modules\":[]}", "/modules"),
         (
             "{\"modules\":{\"a/b~c\":{\"ports\":{\"p\":{\"direction\":1}}}}}",
             "/modules/a~1b~0c/ports/p/bits",
@@ -144,35 +102,81 @@ fn refused_places(rt: HostRuntime) -> Result<(), Fail> {
             "/modules/t/cells/c/connections/Y/0",
         ),
     ] {
-        assert_refused(&rt, alloc, text, place);
+        assert!(rt; is_refused_at(rt.alloc(), text, place), "{text}");
     }
-    Ok(())
+}
+
+fn is_clock(port: &PortDecl) -> bool {
+    port.name.as_str() == "clk" && port.direction == Direction::Input
+}
+
+fn is_register(cell: &CellDecl) -> bool {
+    let [_, _, pin] = cell.pins.as_slice() else {
+        return false;
+    };
+    cell.kind.as_str() == "$_DFF_P_"
+        && pin.name.as_str() == "Q"
+        && pin.bits.as_slice() == [Signal::Bit(BitId::new(4))].as_slice()
+}
+
+fn has_start(net: &NetDecl) -> bool {
+    let [init] = net.attributes.as_slice() else {
+        return false;
+    };
+    init.name.as_str() == "init"
+        && matches!(&init.datum, Datum::Digits(digits) if digits.as_str() == "1")
+}
+
+fn has_one_register(module: &Module) -> bool {
+    let ([clock, _, _], [cell], [net]) = (
+        module.ports.as_slice(),
+        module.cells.as_slice(),
+        module.nets.as_slice(),
+    ) else {
+        return false;
+    };
+    module.name.as_str() == "top" && is_clock(clock) && is_register(cell) && has_start(net)
 }
 
 #[test]
-fn numbers_of_attributes(rt: HostRuntime) -> Result<(), Fail> {
+fn one_register_is_read(rt: HostRuntime) {
+    let doc = read_document(rt.alloc(), ONE_REGISTER.as_bytes()).expect(&rt, "a document");
+    assert!(rt; matches!(doc.modules.as_slice(), [module] if has_one_register(module)));
+}
+
+// Whether the attributes are the greatest and the least whole number that is kept.
+fn has_numbers(module: &Module) -> bool {
+    let [greatest, least] = module.attributes.as_slice() else {
+        return false;
+    };
+    matches!(greatest.datum, Datum::Number(0xffff_ffff_ffff_ffff))
+        && matches!(least.datum, Datum::Number(-0x8000_0000))
+}
+
+#[test]
+fn numbers_of_attributes(rt: HostRuntime) {
     let text = "{\"modules\":{\"t\":{\"attributes\":{\"a\":18446744073709551616,\
         \"b\":18446744073709551615,\"c\":-2147483648,\"d\":-2147483649,\"e\":null}}}}";
-    let doc = read_document(rt.alloc(), text.as_bytes())?;
-    let kept = only_module(&doc)?.attributes.as_slice();
-    assert_eq!(rt; kept.len(), 2);
-    let greatest = kept.first().ok_or("b")?;
-    assert!(rt; matches!(greatest.datum, Datum::Number(0xffff_ffff_ffff_ffff)));
-    let least = kept.last().ok_or("c")?;
-    assert!(rt; matches!(least.datum, Datum::Number(-0x8000_0000)));
-    Ok(())
+    let doc = read_document(rt.alloc(), text.as_bytes()).expect(&rt, "a document");
+    assert!(rt; matches!(doc.modules.as_slice(), [module] if has_numbers(module)));
+}
+
+fn is_line(bytes: &[u8], text: &str) -> bool {
+    match bytes.split_last() {
+        Some((newline, line)) => *newline == b'\n' && line == text.as_bytes(),
+        None => false,
+    }
 }
 
 #[test]
-fn two_registers_print_to_the_byte(rt: HostRuntime) -> Result<(), Fail> {
-    let doc = read_document(rt.alloc(), TWO_REGISTERS_ANOTHER_WAY.as_bytes())?;
-    let text = print_document(rt.alloc(), &doc)?;
-    let mut wanted = String::from_str(rt.alloc(), TWO_REGISTERS)?;
-    wanted.push('\n')?;
-    assert!(rt; text.as_slice() == wanted.as_bytes());
-    let again = read_document(rt.alloc(), text.as_slice())?;
-    let once_more = print_document(rt.alloc(), &again)?;
-    assert!(rt; once_more.as_slice() == text.as_slice());
-    crate::reads_back();
-    Ok(())
+fn documents_print_to_the_byte(rt: HostRuntime) {
+    for (text, printed) in [
+        (TWO_REGISTERS_ANOTHER_WAY, TWO_REGISTERS),
+        (TWO_REGISTERS, TWO_REGISTERS),
+        ("{\"modules\":{}}", "{\"creator\":\"cslow\",\"modules\":{}}"),
+    ] {
+        let doc = read_document(rt.alloc(), text.as_bytes()).expect(&rt, "a document");
+        let bytes = print_document(rt.alloc(), &doc).expect(&rt, "a text");
+        assert!(rt; is_line(bytes.as_slice(), printed), "{printed}");
+    }
 }
