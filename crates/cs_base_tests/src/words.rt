@@ -14,37 +14,40 @@ fn read(rt: &impl Abort, alloc: Global, words: &[&str]) -> Result<Command, WordE
 
 const MOST: &str = "00000000000000000016";
 
-fn is_slow(said: &Result<Command, WordError>) -> bool {
+fn is_slow(said: Result<Command, WordError>) -> bool {
     match said {
         Ok(Command::Slow(slow)) => slow.contexts.get() == 16 && slow.output.as_str() == "out",
         _ => false,
     }
 }
 
-fn is_part(said: &Result<Command, WordError>) -> bool {
+fn is_part(said: Result<Command, WordError>) -> bool {
     match said {
         Ok(Command::Part(part)) => part.k == 15 && part.contexts.get() == 16,
         _ => false,
     }
 }
 
-fn is_mix(said: &Result<Command, WordError>) -> bool {
-    matches!(said, Ok(Command::Mix(mix)) if mix.streams.len() == 2)
+fn is_mix(said: Result<Command, WordError>) -> bool {
+    match said {
+        Ok(Command::Mix(mix)) => mix.streams.len() == 2,
+        _ => false,
+    }
 }
 
 #[test]
 fn words_say_commands(rt: HostRuntime) {
     let alloc = rt.alloc();
     let slow = ["slow", "in", "out", "cert", "delays", "-c", MOST];
-    assert!(rt; is_slow(&read(&rt, alloc, &slow)));
-    assert!(rt; is_part(&read(&rt, alloc, &["part", "015", MOST, "rows"])));
-    assert!(rt; is_mix(&read(&rt, alloc, &["mix", "out", "a", "b"])));
+    assert!(rt; is_slow(read(&rt, alloc, &slow)));
+    assert!(rt; is_part(read(&rt, alloc, &["part", "015", MOST, "rows"])));
+    assert!(rt; is_mix(read(&rt, alloc, &["mix", "out", "a", "b"])));
 }
 
 // Whether the words are refused as those of their first.
-fn are_bad(said: &Result<Command, WordError>, words: &[&str]) -> bool {
-    match (said, words) {
-        (Err(WordError::BadWords { command }), [first, ..]) => command.as_str() == *first,
+fn are_bad(said: Result<Command, WordError>, words: &[&str]) -> bool {
+    match said {
+        Err(WordError::BadWords { command }) => words.first().copied() == Some(command.as_str()),
         _ => false,
     }
 }
@@ -78,18 +81,21 @@ fn usage_faults(rt: HostRuntime) {
         &["sim", "net"],
     ];
     for (row, words) in FAULTS.iter().enumerate() {
-        assert!(rt; are_bad(&read(&rt, rt.alloc(), words), words), "row {row}");
+        assert!(rt; are_bad(read(&rt, rt.alloc(), words), words), "row {row}");
     }
+}
+
+fn is_no_command(said: Result<Command, WordError>) -> bool {
+    matches!(said, Err(WordError::NoCommand))
 }
 
 #[test]
 fn no_such_command(rt: HostRuntime) {
     for words in [[].as_slice(), &["slo"], &["SIM"]] {
-        let said = read(&rt, rt.alloc(), words);
+        let count = words.len();
         assert!(rt;
-            matches!(&said, Err(WordError::NoCommand)),
-            "{} words",
-            words.len()
+            is_no_command(read(&rt, rt.alloc(), words)),
+            "{count} words"
         );
     }
 }

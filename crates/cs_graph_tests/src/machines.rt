@@ -21,21 +21,20 @@ fn is_edge(machine: &Machine, e: u32, wire: Wire<'_>) -> bool {
         && edge.contents.as_slice() == contents
 }
 
-fn is_open(built: &Result<Machine, BuildError>) -> bool {
-    matches!(built, Err(BuildError::Open { vertex, pin: 0 }) if vertex.get() == 1)
+fn is_open(built: Result<Machine, BuildError>) -> bool {
+    matches!(&built, Err(BuildError::Open { vertex, pin: 0 }) if vertex.get() == 1)
 }
 
-fn is_loop(built: &Result<Machine, BuildError>) -> bool {
-    let Err(BuildError::Loop { vertices }) = built else {
-        return false;
-    };
-    vertices.as_slice() == [VertexId::new(1)].as_slice()
+fn is_loop(built: Result<Machine, BuildError>) -> bool {
+    match built {
+        Err(BuildError::Loop { vertices }) => {
+            vertices.as_slice() == [VertexId::new(1)].as_slice()
+        }
+        _ => false,
+    }
 }
 
-fn is_inverter(built: &Result<Machine, BuildError>) -> bool {
-    let Ok(machine) = built else {
-        return false;
-    };
+fn is_inverter(machine: &Machine) -> bool {
     machine.vertex_count() == 2
         && machine.edge_count() == 1
         && is_edge(machine, 0, (1, 0, 1, &[true, false]))
@@ -44,10 +43,11 @@ fn is_inverter(built: &Result<Machine, BuildError>) -> bool {
 #[test]
 fn machine_builder(rt: HostRuntime) {
     let not = [VertexKind::Gate(Kind::Not)];
-    assert!(rt; is_open(&machine(&rt, rt.alloc(), &not, &[])));
-    assert!(rt; is_loop(&machine(&rt, rt.alloc(), &not, &[(1, 0, 1, &[])])));
+    assert!(rt; is_open(machine(&rt, rt.alloc(), &not, &[])));
+    assert!(rt; is_loop(machine(&rt, rt.alloc(), &not, &[(1, 0, 1, &[])])));
     let wire: Wire<'_> = (1, 0, 1, &[true, false]);
-    assert!(rt; is_inverter(&machine(&rt, rt.alloc(), &not, &[wire])));
+    let inverter = machine(&rt, rt.alloc(), &not, &[wire]).expect(&rt, "a machine");
+    assert!(rt; is_inverter(&inverter));
 }
 
 // Input 1, output 2, inverters 3 and 4 and an exclusive or 5 that reads the input and inverter 4, each through a
