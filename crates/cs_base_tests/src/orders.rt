@@ -14,7 +14,7 @@ fn rows_of_sources(rt: HostRuntime) {
     assert!(rt; graph.sources(0) == [4, 0].as_slice() && graph.sources(1) == [3].as_slice());
 }
 
-type Rows = &'static [&'static [u32]];
+type Rows = &'static [&'static [usize]];
 
 fn arranged(rt: &impl Abort, alloc: Global, rows: Rows) -> Arrangement {
     let mut graph = Dependencies::new(alloc);
