@@ -15,6 +15,3 @@ pub use circuit::{Circuit, GatePart, RegisterPart};
 pub use document::multiply;
 pub use error::MultiplyError;
 pub use laws::{multiplied_isolates, plain_netlist_is_multiplied};
-
-#[cfg(test)]
-mod tests;

@@ -32,6 +32,3 @@ pub use laws::{
 pub use netlist::{Cell, Clock, Netlist, PinBits, Port};
 pub use places::Places;
 pub use state::{BitValue, MemoryWords, Snapshot};
-
-#[cfg(test)]
-mod tests;

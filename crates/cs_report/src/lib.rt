@@ -6,6 +6,3 @@ mod refused;
 mod words;
 
 pub use fault::{Fault, fault_text};
-
-#[cfg(test)]
-mod tests;

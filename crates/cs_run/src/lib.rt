@@ -28,10 +28,3 @@ pub use rows::read_rows;
 pub use simulation::answer_sim;
 pub use slow::answer_slow;
 pub use status::Status;
-
-#[cfg(test)]
-mod refusal_tests;
-#[cfg(test)]
-mod stream_tests;
-#[cfg(test)]
-mod tests;

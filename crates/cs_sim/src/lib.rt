@@ -14,6 +14,3 @@ mod wiring;
 
 pub use response::respond;
 pub use simulator::Sim;
-
-#[cfg(test)]
-mod tests;

@@ -1,0 +1,19 @@
+//! Tests of the whole program, over a store and a sink in memory.
+#![tactic(auto)]
+
+#[cfg(test)]
+mod documents;
+#[cfg(test)]
+mod failing_calls;
+#[cfg(test)]
+mod multiplied;
+#[cfg(test)]
+mod refused_documents;
+#[cfg(test)]
+mod running;
+#[cfg(test)]
+mod simulated;
+#[cfg(test)]
+mod streams;
+#[cfg(test)]
+mod written;
