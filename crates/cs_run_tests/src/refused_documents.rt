@@ -4,7 +4,6 @@ use crate::running::assert_run;
 use cs_io::MemStore;
 use std::alloc::AllocGlobal;
 use std::process::Abort;
-use std::test::Fail;
 
 const SLOW: &str = "slow in out cert delays -c 2";
 
@@ -161,36 +160,37 @@ const REFUSED: [(&str, &str, &str, u8, &str); 23] = [
     ),
 ];
 
-fn assert_refused<R: AllocGlobal + Abort>(
-    rt: &R,
-    document: &[u8],
-    status: u8,
-    line: &str,
-) -> Result<(), Fail> {
+fn assert_refused<R: AllocGlobal + Abort>(rt: &R, document: &[u8], status: u8, line: &str) {
     let mut store = MemStore::new(rt.alloc());
-    store.add("in", document)?;
-    assert_run(rt, &mut store, SLOW, status, line)?;
+    assert!(rt; store.add("in", document).is_ok());
+    assert_run(rt, &mut store, SLOW, status, line);
     assert!(rt; store.file("out").is_none(), "{line}");
-    Ok(())
 }
 
 #[test]
-fn refused(rt: HostRuntime) -> Result<(), Fail> {
+fn refused(rt: HostRuntime) {
     for (document, part, other, status, line) in REFUSED {
-        let document = document.replace(rt.alloc(), part, other)?;
-        assert_refused(&rt, document.as_str().as_bytes(), status, line)?;
+        let document = document
+            .replace(rt.alloc(), part, other)
+            .expect(&rt, "a document");
+        assert_refused(&rt, document.as_str().as_bytes(), status, line);
     }
-    Ok(())
+}
+
+fn lists_in_each_other<R: AllocGlobal + Abort>(rt: &R, depth: usize) -> String {
+    let mut lists = "[".repeat(rt.alloc(), depth).expect(rt, "a list");
+    let ends = "]".repeat(rt.alloc(), depth).expect(rt, "its ends");
+    assert!(rt; lists.push_str(ends.as_str()).is_ok());
+    lists
 }
 
 // A document is cut short at each place, and one has 200 lists in each other.
 #[test]
-fn broken(rt: HostRuntime) -> Result<(), Fail> {
+fn broken(rt: HostRuntime) {
     let register = REGISTER.as_bytes();
     for length in 0..register.len() {
-        assert_refused(&rt, &register[..length], 5, "document: not json\n")?;
+        assert_refused(&rt, &register[..length], 5, "document: not json\n");
     }
-    let mut lists = "[".repeat(rt.alloc(), 200)?;
-    lists.push_str("]".repeat(rt.alloc(), 200)?.as_str())?;
-    assert_refused(&rt, lists.as_str().as_bytes(), 5, "document: not json\n")
+    let lists = lists_in_each_other(&rt, 200);
+    assert_refused(&rt, lists.as_str().as_bytes(), 5, "document: not json\n");
 }

@@ -1,37 +1,36 @@
 // Runs of the program over a store and a sink in memory.
 use cs_io::{MemSink, MemStore};
 use cs_run::run;
-use std::alloc::{AllocError, AllocGlobal, Global};
+use std::alloc::AllocGlobal;
 use std::process::Abort;
 
 /// A store of these files.
-pub(crate) fn store_of(alloc: Global, files: &[(&str, &str)]) -> Result<MemStore, AllocError> {
-    let mut store = MemStore::new(alloc);
+pub(crate) fn store_of<R: AllocGlobal + Abort>(rt: &R, files: &[(&str, &str)]) -> MemStore {
+    let mut store = MemStore::new(rt.alloc());
     for (name, text) in files {
-        if store.add(name, text.as_bytes()).is_err() {
-            return Err(AllocError);
-        }
+        assert!(rt; store.add(name, text.as_bytes()).is_ok());
     }
-    Ok(store)
+    store
 }
 
-fn words_of(alloc: Global, text: &str) -> Result<Vec<String>, AllocError> {
-    let mut words = Vec::new(alloc);
+fn words_of<R: AllocGlobal + Abort>(rt: &R, text: &str) -> Vec<String> {
+    let mut words = Vec::new(rt.alloc());
     for word in text.split_whitespace() {
-        words.push(String::from_str(alloc, word)?)?;
+        let word = String::from_str(rt.alloc(), word).expect(rt, "a word");
+        assert!(rt; words.push(word).is_ok());
     }
-    Ok(words)
+    words
 }
 
 /// The status of the run of words, which stand apart by blanks.
-pub(crate) fn status_of<R: AllocGlobal>(
+pub(crate) fn status_of<R: AllocGlobal + Abort>(
     rt: &R,
     words: &str,
     store: &mut MemStore,
     out: &mut MemSink,
-) -> Result<u8, AllocError> {
-    let words = words_of(rt.alloc(), words)?;
-    Ok(run(rt, &words, store, out))
+) -> u8 {
+    let words = words_of(rt, words);
+    run(rt, &words, store, out)
 }
 
 /// Runs words, and asserts how the run ends and what it puts.
@@ -41,13 +40,9 @@ pub(crate) fn assert_run<R: AllocGlobal + Abort>(
     words: &str,
     status: u8,
     text: &str,
-) -> Result<(), AllocError> {
+) {
     let mut out = MemSink::new(rt.alloc());
-    assert_eq!(rt;
-        status_of(rt, words, store, &mut out)?,
-        status,
-        "the status of {words}"
-    );
+    let answered = status_of(rt, words, store, &mut out);
+    assert_eq!(rt; answered, status, "the status of {words}");
     assert!(rt; out.bytes() == text.as_bytes(), "what {words} puts");
-    Ok(())
 }

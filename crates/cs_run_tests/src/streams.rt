@@ -1,18 +1,17 @@
 // The commands `mix` and `part`, and faulty rows.
 use crate::documents::XOR_FEEDBACK;
 use crate::running::{assert_run, store_of};
-use std::test::Fail;
 
 #[test]
-fn mixed_and_parted(rt: HostRuntime) -> Result<(), Fail> {
+fn mixed_and_parted(rt: HostRuntime) {
     let mut store = store_of(
-        rt.alloc(),
+        &rt,
         &[
             ("s0", "1\n1\n1\n"),
             ("s1", "0\n1\n0"),
             ("rows", "0\n0\n1\n0\n0\n1\n"),
         ],
-    )?;
+    );
     for (words, text) in [
         ("mix out s0 s1", ""),
         ("part 0 2 out", "1\n1\n1\n"),
@@ -20,16 +19,15 @@ fn mixed_and_parted(rt: HostRuntime) -> Result<(), Fail> {
         ("part 0 2 rows", "0\n1\n0\n"),
         ("part 1 2 rows", "0\n0\n1\n"),
     ] {
-        assert_run(&rt, &mut store, words, 0, text)?;
+        assert_run(&rt, &mut store, words, 0, text);
     }
     assert!(rt; store.file("out") == Some(b"1\n0\n1\n1\n1\n0\n".as_slice()));
-    Ok(())
 }
 
 #[test]
-fn refused_words_and_rows(rt: HostRuntime) -> Result<(), Fail> {
+fn refused_words_and_rows(rt: HostRuntime) {
     let mut store = store_of(
-        rt.alloc(),
+        &rt,
         &[
             ("net", XOR_FEEDBACK),
             ("character", "1\n2\n"),
@@ -38,7 +36,7 @@ fn refused_words_and_rows(rt: HostRuntime) -> Result<(), Fail> {
             ("one", "1\n"),
             ("two", "1\n0\n"),
         ],
-    )?;
+    );
     for (words, status, text) in [
         ("sim net character", 11, "stimulus: line 2 column 1\n"),
         ("sim net width", 11, "stimulus: line 2 has another length\n"),
@@ -68,8 +66,7 @@ fn refused_words_and_rows(rt: HostRuntime) -> Result<(), Fail> {
         ),
         ("slow net out out delays -c 2", 2, "usage: words of slow\n"),
     ] {
-        assert_run(&rt, &mut store, words, status, text)?;
+        assert_run(&rt, &mut store, words, status, text);
         assert!(rt; store.file("out").is_none(), "{words}");
     }
-    Ok(())
 }
