@@ -10,8 +10,7 @@ pub mod DraftLemmas
 pub mod NumberingLemmas
 pub mod BuiltLemmas
 pub mod LagLemmas
-pub mod SearchLemmas
-pub mod SearchEnds
+pub mod OrderLemmas
 pub mod ArrivalLemmas
 pub mod PathLemmas
 pub mod RetimedLoops

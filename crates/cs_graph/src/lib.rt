@@ -14,7 +14,6 @@ mod memory;
 mod numbering;
 mod order;
 mod period;
-mod search;
 mod source;
 mod vertex;
 
