@@ -13,6 +13,7 @@ pub mod LagLemmas
 pub mod OrderLemmas
 pub mod ArrivalLemmas
 pub mod PathLemmas
+pub mod PathWeights
 pub mod RetimedLoops
 pub mod OpenLemmas
 pub mod FinishLemmas
