@@ -44,7 +44,7 @@ module _ (g : Graph) (lags : List ℤ) where
   )
 
   -- an edge without a register is read by the pin that it leads to
-  edge_drives : (e : ℕ) (d : Edge) → IsWired g → slice_get g.edges e ≡ Some d → (weight_under lags d ≡ pos 0)
+  edge_drives : (e : ℕ) (d : Edge) → IsWired g → slice_get g.edges e ≡ Some d → weight_under lags d ≡ pos 0
       → IsDriver g lags d.to d.pin d.from
   edge_drives e d wired found none =
       let pin = wired.fed.feeds e d found in

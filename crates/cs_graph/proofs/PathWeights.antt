@@ -3,11 +3,13 @@ use Rattle.std.proofs.Common.{◌≡◌, ℕ, zero, suc, ◌+◌, ◌<◌, ◌�
 use Rattle.std.specs.Prelude.{ℤ, pos, ◌+ℤ◌, ◌-ℤ◌, Some, slice_get}
 use Rattle.std.proofs.lemmas.Bool.{cases_lt}
 use Rattle.std.proofs.lemmas.Int.{ints}
+use Rattle.std.proofs.lemmas.List.{length-map}
 use Rattle.std.proofs.lemmas.Option.{none-some, same_Some}
 use Rattle.cs_order.specs.Graphs.{HasNoRepeat}
+use Rattle.cs_order.proofs.CountLemmas.{count_at_most}
 use Rattle.cs_graph.specs.declared.delays.Delays.{Delays}
 use Rattle.cs_graph.specs.declared.graph.Graph.{Graph}
-use Rattle.cs_graph.specs.Invariant.{HasOrder}
+use Rattle.cs_graph.specs.Invariant.{HasOrder, IsWellFormed}
 use Rattle.cs_graph.specs.Lags.{lag_at}
 use Rattle.cs_graph.specs.Period.{IsPath, edge_weight, path_weight, edge_weight_under, path_weight_under, edge_end, path_vertices, IsLeastWeight, IsPeriod}
 
@@ -139,3 +141,23 @@ pub least_path : (g : Graph) → HasOrder g → (u v weight : ℕ) (es : List �
     → IsPath g u es v → path_weight g es ≡ weight → HasNoRepeat (path_vertices g u es)
 least_path g order u v weight es is leads same = least_simple g order u v es leads
     (λ fs others. let least = is.least fs others in omega (arith, least, same))
+
+path_within : (g : Graph) → IsWellFormed g → (u v : ℕ) (es : List ℕ) → IsPath g u es v → u < length g.vertices
+    → (i x : ℕ) → slice_get (path_vertices g u es) i ≡ Some x → x < length g.vertices
+path_within g well u v [] leads low zero x at = subst (λ n. n < length g.vertices) (same_Some u x at) low
+path_within g well u v [] leads low (suc i) x at = absurd (none-some x at)
+path_within g well u v (e ∷ es) leads low zero x at = subst (λ n. n < length g.vertices) (same_Some u x at) low
+path_within g well u v (e ∷ es) (d, found, from, rest) low (suc i) x at =
+    let ends = ap edge_end found in
+    path_within g well d.to v es rest (well.to e d found) i x
+    (subst (λ n. slice_get (path_vertices g n es) i ≡ Some x) ends at)
+
+pub least_short : (g : Graph) → IsWellFormed g → (u v weight : ℕ) (es : List ℕ) → u < length g.vertices
+    → IsLeastWeight g u v weight → IsPath g u es v → path_weight g es ≡ weight
+    → length es < length g.vertices
+least_short g well u v weight es low is leads same =
+    let once = least_path g well.order u v weight es is leads same in
+    let most = count_at_most (length g.vertices) (path_vertices g u es) (path_within g well u v es leads low)
+    once in
+    let count = length-map es (λ e. edge_end (slice_get g.edges e)) in
+    omega (arith, most, count)

@@ -1,5 +1,5 @@
 // Laws of machines. Each is a function without effect, whose clauses are the law.
-ghost use Rattle.std.specs.Prelude.{◌≡◌, ◌<◌, ◌≤◌, ◌↔◌, ◌+ℤ◌, ◌-ℤ◌, ◌<ℤ◌, pos, ℤ, ℕ, Bool, false, List, [], ◌∷◌};
+ghost use Rattle.std.specs.Prelude.{◌≡◌, ◌<◌, ◌≤◌, ◌↔◌, ◌+ℤ◌, ◌-ℤ◌, ◌<ℤ◌, pos, ℤ, ℕ, Bool, false, List, [], ◌∷◌, length};
 ghost use Rattle.cs_base.specs.Parts.{part};
 ghost use Rattle.cs_base.specs.declared.contexts.Mode.{Mode};
 ghost use Rattle.cs_cells.specs.Memories.{Words};
@@ -82,13 +82,16 @@ pub fn registers_of_paths()
 {}
 
 /// A path of a machine that leads back to where it begins has a register; so a path with the least registers comes
-/// to no vertex twice.
+/// to no vertex twice, and has fewer edges than there are vertices.
 pub fn least_paths(machine: &Machine)
     ensures closed { (v e : ℕ) (es : List ℕ) → IsPath machine.now v (e ∷ es) v
         → 0 < path_weight machine.now (e ∷ es) }
     ensures simple { (u v weight : ℕ) (es : List ℕ) → IsLeastWeight machine.now u v weight
         → IsPath machine.now u es v → path_weight machine.now es ≡ weight
         → HasNoRepeat (path_vertices machine.now u es) }
+    ensures short { (u v weight : ℕ) (es : List ℕ) → u < length machine.now.vertices
+        → IsLeastWeight machine.now u v weight → IsPath machine.now u es v
+        → path_weight machine.now es ≡ weight → length es < length machine.now.vertices }
 {
     machine.keeps();
 }

@@ -1,8 +1,9 @@
--- A machine has an order.
-use Rattle.cs_graph.proofs.PathWeights.{closed_path, least_path}
+-- A machine is well formed, and so has an order.
+use Rattle.cs_graph.proofs.PathWeights.{closed_path, least_path, least_short}
 use Rattle.cs_graph.proofs.laws.least_paths.Goals as goal
 
 pub returns : goal.returns
 returns c =
-    let order = c.keeps.ensures.well_formed.order in
-    record { closed = closed_path c.args.machine.now order; simple = least_path c.args.machine.now order }
+    let g = c.args.machine.now in
+    let well = c.keeps.ensures.well_formed in
+    record { closed = closed_path g well.order; simple = least_path g well.order; short = least_short g well }
