@@ -8,7 +8,7 @@ use Rattle.cs_graph.specs.declared.vertex.Vertex.{Vertex}
 use Rattle.cs_graph.specs.declared.delays.Delays.{Delays}
 use Rattle.cs_graph.specs.declared.graph.Graph.{Graph}
 use Rattle.cs_graph.specs.Period.{vertex_delay, pin_delay}
-use Rattle.cs_graph.specs.Search.{IsDriver}
+use Rattle.cs_graph.specs.Order.{IsDriver}
 use Rattle.cs_graph.specs.Arrivals.{arrival_of, IsLatest}
 
 -- ---- pin by pin

@@ -15,7 +15,7 @@ use Rattle.cs_graph.specs.declared.vertex.Vertex.{Vertex}
 use Rattle.cs_graph.specs.declared.edge.Edge.{Edge}
 use Rattle.cs_graph.specs.Kinds.{pin_count}
 use Rattle.cs_graph.specs.Invariant.{IsFed, HasOrder, IsWellFormed, IsMachine, LeadsBefore, HasHost, HasOutput, HasMemories, kinds}
-use Rattle.cs_graph.specs.Search.{IsWired}
+use Rattle.cs_graph.specs.Order.{IsWired}
 use Rattle.cs_graph.specs.Draft.{Draft, IsDraft, open_kinds, driven, registers, edge_count, weight, feed_of, edge_into, feeds_from, edges_into, vertices_from, edges_from, built}
 use Rattle.cs_graph.proofs.Lists.{get_left, get_right, get_append, get_single}
 use Rattle.cs_graph.proofs.NumberingLemmas.{length_edge_into, length_edges_into, length_feeds_from}

@@ -15,7 +15,8 @@ use Rattle.cs_graph.specs.declared.memory.Memory.{Memory}
 use Rattle.cs_graph.specs.Kinds.{pin_count, output_count, read_width}
 use Rattle.cs_graph.specs.Invariant.{HasHost, HasMemories, HasMemory, HasOutput, IsNextPort, IsMemory}
 use Rattle.cs_graph.specs.Draft.{Draft, open_kinds, IsOpen, with_source, driven, registers, edge_count, weight, IsDraft}
-use Rattle.cs_graph.proofs.Lists.{get_left, get_push, get_set_cases, get_replicate}
+use Rattle.cs_order.proofs.ListLemmas.{at_push, at_replicate}
+use Rattle.cs_graph.proofs.Lists.{get_left, get_set_cases}
 
 -- ---- a source
 
@@ -188,7 +189,7 @@ total_push f xs kind n none =
 host_push : (ks : List VertexKind) (kind : VertexKind) → HasHost ks → kind ≢ Host → HasHost (ks ++ kind ∷ [])
 host_push ks kind has other = record {
   first = get_left ks (kind ∷ []) 0 Host has.first;
-  one = λ v is. elim (get_push ks kind v Host is) [
+  one = λ v is. elim (at_push ks kind v Host is) [
     | inl before ↦ has.one v before
     | inr new ↦ absurd (other (sym new.1))
   ];
@@ -209,11 +210,11 @@ memories_push : (ms : List Memory) (ks : List VertexKind) (kind : VertexKind) �
 memories_push ms ks kind has there port few = record {
   few = has.few;
   each = has.each;
-  there = λ v k is. elim (get_push ks kind v k is) [
+  there = λ v k is. elim (at_push ks kind v k is) [
     | inl before ↦ has.there v k before
     | inr new ↦ subst (HasMemory ms) (sym new.1) there
   ];
-  ports = λ v k is. elim (get_push ks kind v k is) [
+  ports = λ v k is. elim (at_push ks kind v k is) [
     | inl before ↦
         let within = slice_get_within ks v k before in
         subst (λ before. IsNextPort before k) (sym (take_left ks (kind ∷ []) v (omega arith))) (has.ports v
@@ -251,17 +252,17 @@ draft_with_vertex d kind is other there port reads room =
     let kinds = kinds_push d.vertices x in
     record {
       host = subst HasHost (sym kinds) (host_push (open_kinds d.vertices) kind is.host other);
-      pins = λ w y found. elim (get_push d.vertices x w y found) [
+      pins = λ w y found. elim (at_push d.vertices x w y found) [
         | inl before ↦ is.pins w y before
         | inr new ↦ subst (λ (z : OpenVertex). length z.pins ≡ pin_count d.memories z.kind) (sym new.1)
             (length_replicate n)
       ];
-      outputs = λ w j y k found at. elim (get_push d.vertices x w y found) [
+      outputs = λ w j y k found at. elim (at_push d.vertices x w y found) [
         | inl before ↦ subst (λ ks. HasOutput d.memories ks k.from k.output) (sym kinds)
             (output_push d.memories (open_kinds d.vertices) kind k.from k.output (is.outputs w j y k before
             at))
         | inr new ↦
-            let none = get_replicate n j None (Some (Driven k))
+            let none = at_replicate n j None (Some (Driven k))
             (subst (λ (z : OpenVertex). slice_get z.pins j ≡ Some (Some (Driven k))) new.1 at) in
             absurd (none-some (Driven k) (sym none))
       ];
@@ -366,7 +367,7 @@ draft_with_memory d m is sizes room =
           };
       memories = record {
         few = let more = length-append d.memories (m ∷ []) in omega (arith, more);
-        each = λ i x found. elim (get_push d.memories m i x found) [
+        each = λ i x found. elim (at_push d.memories m i x found) [
           | inl before ↦ is.memories.each i x before
           | inr new ↦ subst IsMemory (sym new.1) sizes
         ];

@@ -1,7 +1,6 @@
 -- From what a builder keeps to what a machine keeps.
-use Rattle.std.proofs.Common.{◌≡◌, ℕ, zero, suc, ◌+◌, ◌*◌, ◌^◌, ◌<◌, ◌≤◌, List, [], ◌∷◌, length, min, refl, ap, arith}
-use Rattle.std.specs.Prelude.{pos, ◌+ℤ◌, ◌-ℤ◌, Option, Some, None, slice_get}
-use Rattle.std.proofs.lemmas.Int.{ints}
+use Rattle.std.proofs.Common.{◌≡◌, ℕ, zero, suc, ◌+◌, ◌*◌, ◌^◌, ◌<◌, ◌≤◌, List, length, min, refl, ap, ◌∙◌, arith}
+use Rattle.std.specs.Prelude.{pos, Option, Some, None, slice_get}
 use Rattle.std.proofs.lemmas.Option.{slice_get_within}
 use Rattle.cs_cells.specs.declared.gate.Kind.{Kind}
 use Rattle.cs_cells.specs.declared.gate.Kind.TheVariants.{Buf, Not, And, Nand, Or, Nor, Xor, Xnor, AndNot, OrNot, Mux, Nmux, Aoi3, Oai3, Aoi4, Oai4, Mux4, Mux8, Mux16}
@@ -9,82 +8,25 @@ use Rattle.cs_cells.specs.Gates.{pin_count as gate_pins}
 use Rattle.cs_graph.specs.declared.source.OpenVertex.{OpenVertex}
 use Rattle.cs_graph.specs.declared.vertex.VertexKind.{VertexKind}
 use Rattle.cs_graph.specs.declared.vertex.VertexKind.TheVariants.{Host, Input, Output, Constant, Gate, Read, Write}
-use Rattle.cs_graph.specs.declared.edge.Edge.{Edge}
 use Rattle.cs_graph.specs.declared.memory.Memory.{Memory}
 use Rattle.cs_graph.specs.declared.graph.Graph.{Graph}
 use Rattle.cs_graph.specs.Kinds.{pin_count, address_bits, word_bits}
 use Rattle.cs_graph.specs.Invariant.{HasOrder, IsMachine, IsMemory}
-use Rattle.cs_graph.specs.Lags.{AreWithin}
-use Rattle.cs_graph.specs.Order.{FeedsAtOnce, FedAlong, IsLoop, IsOrder}
-use Rattle.cs_graph.specs.Search.{IsWired, FeedsUnder, FedUnder, IsLoopUnder, IsOrderUnder}
+use Rattle.cs_graph.specs.Order.{IsWired, IsLoop, IsOrder, no_lags}
 use Rattle.cs_graph.specs.Draft.{Draft, IsDraft, built}
+use Rattle.cs_graph.proofs.LagLemmas.{weight_alone}
+use Rattle.cs_graph.proofs.RetimedLoops.{lags_no_loop}
 use Rattle.cs_graph.proofs.BuiltLemmas.{built_machine, built_wired}
 
--- ---- no lags
+-- ---- orders
 
-pub no_lags : AreWithin (2 ^ 31) []
-no_lags = record { high = λ v. omega (arith, ints); low = λ v. omega (arith, ints) }
-
-plain_weight : (w : ℕ) → (pos w +ℤ pos 0 -ℤ pos 0) ≡ pos 0 → w ≡ 0
-plain_weight w h = omega (arith, ints)
-
-no_weight : (w : ℕ) → w ≡ 0 → (pos w +ℤ pos 0 -ℤ pos 0) ≡ pos 0
-no_weight w h = omega (arith, ints)
-
-feeds_plain : (g : Graph) (u v : ℕ) → FeedsUnder g [] u v → FeedsAtOnce g u v
-feeds_plain g u v (e, d, found, none, from, to) = (e, d, found, plain_weight d.weight none, from, to)
-
-fed_plain : (g : Graph) (u : ℕ) (ws : List ℕ) (v : ℕ) → FedUnder g [] u ws v → FedAlong g u ws v
-fed_plain g u [] v h = feeds_plain g v u h
-fed_plain g u (w ∷ ws) v (first, rest) = (feeds_plain g w u first, fed_plain g w ws v rest)
-
-pub loop_plain : (g : Graph) (vs : List ℕ) → IsLoopUnder g [] vs → IsLoop g vs
-loop_plain g [] h = h
-loop_plain g (v ∷ vs) h = fed_plain g v vs v h
-
-pub order_plain : (g : Graph) (order : List ℕ) → IsOrderUnder g [] order → IsOrder g order
-order_plain g order is = record {
-  place = is.place;
-  count = is.count;
-  at = is.at;
-  once = is.once;
-  below = λ e d found none. is.below e d found (no_weight d.weight none);
-}
-
--- ---- an order leaves no loop
-
-fed_below : (g : Graph) (place : ℕ → ℕ)
-    → ((e : ℕ) (d : Edge) → slice_get g.edges e ≡ Some d → d.weight ≡ 0 → place d.from < place d.to)
-    → (u v : ℕ) → FeedsAtOnce g u v → place u < place v
-fed_below g place below u v (e, d, found, none, from, to) =
-    let less = below e d found none in
-    let here = ap place from in
-    let there = ap place to in
-    omega (arith, less, here, there)
-
-along_below : (g : Graph) (place : ℕ → ℕ)
-    → ((e : ℕ) (d : Edge) → slice_get g.edges e ≡ Some d → d.weight ≡ 0 → place d.from < place d.to)
-    → (u : ℕ) (ws : List ℕ) (v : ℕ) → FedAlong g u ws v → place v < place u
-along_below g place below u [] v h = fed_below g place below v u h
-along_below g place below u (w ∷ ws) v (first, rest) =
-    let one = fed_below g place below w u first in
-    let others = along_below g place below w ws v rest in
-    omega (arith, one, others)
-
-pub order_no_loop : (g : Graph) (order vs : List ℕ) → IsOrder g order → IsLoop g vs → ⊥
-order_no_loop g order [] is h = h
-order_no_loop g order (v ∷ vs) is h = let less = along_below g is.place is.below v vs v h in omega (
-  arith,
-  less,
-)
-
-pub order_of : (g : Graph) (order : List ℕ) → IsWired g → IsOrder g order → HasOrder g
+pub order_of : (g : Graph) (order : List ℕ) → IsWired g → IsOrder g no_lags order → HasOrder g
 order_of g order wired is = record {
   place = λ v. min (is.place v) (length order);
   span = length order + 1;
   within = λ v. omega arith;
   below = λ e d found none.
-      let less = is.below e d found none in
+      let less = is.below e d found (weight_alone d ∙ ap pos none) in
       let from = slice_get_within order (is.place d.from) d.from (is.at d.from (wired.from e d found)) in
       omega (arith, less, from);
 }
@@ -144,8 +86,11 @@ draft_pins_few d is v x found =
     let few = pins_few d.memories x.kind is.memories.each in
     omega (arith, count, few)
 
-pub finished : (d : Draft) (order : List ℕ) → IsDraft d → IsOrderUnder (built d) [] order
-    → IsMachine (built d) × IsOrder (built d) order
-finished d order is ordered =
-    let plain = order_plain (built d) order ordered in
-    (built_machine d is (order_of (built d) order (built_wired d is) plain), plain)
+pub finished : (d : Draft) (order : List ℕ) → IsDraft d → IsOrder (built d) no_lags order
+    → IsMachine (built d)
+finished d order is ordered = built_machine d is (order_of (built d) order (built_wired d is) ordered)
+
+pub no_loop : (d : Draft) (order vs : List ℕ) → IsDraft d → IsOrder (built d) no_lags order
+    → IsLoop (built d) no_lags vs → ⊥
+no_loop d order vs is ordered = lags_no_loop (built d) (order_of (built d) order (built_wired d is) ordered)
+    no_lags vs

@@ -1,6 +1,6 @@
 -- Legal lags, vertex by vertex and edge by edge.
 use Rattle.std.proofs.Common.{◌≡◌, ℕ, zero, suc, ◌<◌, ◌≤◌, List, [], ◌∷◌, length, Some, refl, inl, inr, arith}
-use Rattle.std.specs.Prelude.{ℤ, pos, ◌≤ℤ◌, slice_get}
+use Rattle.std.specs.Prelude.{ℤ, pos, ◌+ℤ◌, ◌-ℤ◌, ◌≤ℤ◌, slice_get}
 use Rattle.std.proofs.lemmas.Int.{ints}
 use Rattle.std.proofs.lemmas.Bool.{cases_lt}
 use Rattle.cs_base.specs.declared.contexts.Mode.{Mode}
@@ -8,6 +8,7 @@ use Rattle.cs_base.specs.declared.contexts.Mode.TheVariants.{Forward}
 use Rattle.cs_graph.specs.declared.vertex.Vertex.{Vertex}
 use Rattle.cs_graph.specs.declared.edge.Edge.{Edge}
 use Rattle.cs_graph.specs.declared.graph.Graph.{Graph}
+use Rattle.cs_graph.specs.Order.{no_lags}
 use Rattle.cs_graph.specs.Lags.{lag_at, weight_under, IsLegalLag, IsLegal}
 
 -- each vertex may have its lag
@@ -17,6 +18,13 @@ LagsAre vs mode lags = (v : ℕ) (x : Vertex) → slice_get vs v ≡ Some x → 
 -- each edge has a weight
 abbrev pub WeightsAre : List Edge → List ℤ → Type 0
 WeightsAre es lags = (e : ℕ) (d : Edge) → slice_get es e ≡ Some d → pos 0 ≤ℤ (weight_under lags d)
+
+-- without lags an edge has its own weight
+pub weight_alone : (d : Edge) → weight_under no_lags d ≡ pos d.weight
+weight_alone d = alone d.weight
+  where
+    alone : (w : ℕ) → (pos w +ℤ pos 0 -ℤ pos 0) ≡ pos w
+    alone w = omega (arith, ints)
 
 past_lag : (lags : List ℤ) (v : ℕ) → length lags ≤ v → lag_at lags v ≡ pos 0
 past_lag [] v h = refl

@@ -10,10 +10,10 @@ pub mod DraftLemmas
 pub mod NumberingLemmas
 pub mod BuiltLemmas
 pub mod LagLemmas
-pub mod SearchLemmas
-pub mod SearchEnds
+pub mod OrderLemmas
 pub mod ArrivalLemmas
 pub mod PathLemmas
+pub mod PathWeights
 pub mod RetimedLoops
 pub mod OpenLemmas
 pub mod FinishLemmas

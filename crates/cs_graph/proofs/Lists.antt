@@ -1,5 +1,5 @@
 -- Lists that are made alike.
-use Rattle.std.proofs.Common.{◌≡◌, ◌≢◌, ◌⊎◌, ℕ, zero, suc, ◌+◌, ◌<◌, ◌≤◌, List, [], ◌∷◌, ◌++◌, length, map, replicate, subst, set, take, drop, refl, sym, ap, ap₂, ◌∙◌, inl, inr, arith}
+use Rattle.std.proofs.Common.{◌≡◌, ◌≢◌, ◌⊎◌, ℕ, zero, suc, ◌+◌, ◌<◌, ◌≤◌, List, [], ◌∷◌, ◌++◌, length, map, subst, set, refl, sym, ap, ap₂, ◌∙◌, inl, inr, arith}
 use Rattle.std.specs.Prelude.{slice_get, flat_map, Some}
 use Rattle.std.proofs.lemmas.Bool.{cases_lt}
 use Rattle.std.proofs.lemmas.Option.{none-some, same_Some, slice_get_within}
@@ -41,37 +41,10 @@ get_append (z ∷ xs) ys (suc i) x h = elim (get_append xs ys i x h) [
   | inr (k, is, right) ↦ inr (k, omega arith, right)
 ]
 
--- the place behind a list is the item that was put there
-pub get_last : {A : Type 0} (xs : List A) (y : A) → slice_get (xs ++ y ∷ []) (length xs) ≡ Some y
-get_last xs y = get_right xs (y ∷ []) (length xs) 0 (omega arith)
-
 -- the one place of a list of one
 pub get_single : {A : Type 0} (y x : A) (k : ℕ) → slice_get (y ∷ []) k ≡ Some x → (k ≡ 0) × (x ≡ y)
 get_single y x zero h = (refl, sym (same_Some y x h))
 get_single y x (suc k) h = absurd (none-some x h)
-
--- each place of a list with one more item is an old one or that of the item
-pub get_push : {A : Type 0} (xs : List A) (y : A) (i : ℕ) (x : A) → slice_get (xs ++ y ∷ []) i ≡ Some x
-    → (slice_get xs i ≡ Some x) ⊎ ((i ≡ length xs) × (x ≡ y))
-get_push xs y i x h = elim (get_append xs (y ∷ []) i x h) [
-  | inl left ↦ inl left
-  | inr (k, is, right) ↦ let one = get_single y x k right in inr (omega (arith, is, one.0), one.1)
-]
-
--- the place that was set
-pub get_set : {A : Type 0} (xs : List A) (i : ℕ) (y : A) → i < length xs → slice_get (set xs i y) i ≡ Some y
-get_set [] i y h = absurd (omega arith)
-get_set (z ∷ xs) zero y h = refl
-get_set (z ∷ xs) (suc i) y h = get_set xs i y (omega arith)
-
--- another place
-pub get_set_other : {A : Type 0} (xs : List A) (i j : ℕ) (y : A) → j ≢ i
-    → slice_get (set xs i y) j ≡ slice_get xs j
-get_set_other [] i j y h = refl
-get_set_other (z ∷ xs) zero zero y h = absurd (h refl)
-get_set_other (z ∷ xs) zero (suc j) y h = refl
-get_set_other (z ∷ xs) (suc i) zero y h = refl
-get_set_other (z ∷ xs) (suc i) (suc j) y h = get_set_other xs i j y (λ same. h (ap suc same))
 
 -- each place of a list with one item set is that one or as before
 pub get_set_cases : {A : Type 0} (xs : List A) (i j : ℕ) (y x : A) → slice_get (set xs i y) j ≡ Some x
@@ -84,33 +57,6 @@ get_set_cases (z ∷ xs) (suc i) (suc j) y x h = elim (get_set_cases xs i j y x 
   | inl (same, is) ↦ inl (ap suc same, is)
   | inr (other, is) ↦ inr ((λ e. other (omega arith)), is)
 ]
-
--- what replicate has
-pub get_replicate : {A : Type 0} (n i : ℕ) (y x : A) → slice_get (replicate n y) i ≡ Some x → x ≡ y
-get_replicate zero i y x h = absurd (none-some x h)
-get_replicate (suc n) zero y x h = sym (same_Some y x h)
-get_replicate (suc n) (suc i) y x h = get_replicate n i y x h
-
--- a place of the first few items
-pub get_take : {A : Type 0} (n i : ℕ) (xs : List A) (x : A) → slice_get (take n xs) i ≡ Some x
-    → (i < n) × (slice_get xs i ≡ Some x)
-get_take zero i xs x h = absurd (none-some x h)
-get_take (suc n) i [] x h = absurd (none-some x h)
-get_take (suc n) zero (y ∷ xs) x h = (omega arith, h)
-get_take (suc n) (suc i) (y ∷ xs) x h = let rest = get_take n i xs x h in (omega (arith, rest.0), rest.1)
-
-pub get_of_take : {A : Type 0} (n i : ℕ) (xs : List A) → i < n → slice_get (take n xs) i ≡ slice_get xs i
-get_of_take zero i xs h = absurd (omega arith)
-get_of_take (suc n) i [] h = refl
-get_of_take (suc n) zero (y ∷ xs) h = refl
-get_of_take (suc n) (suc i) (y ∷ xs) h = get_of_take n i xs (omega arith)
-
--- a place behind the first few items
-pub get_drop : {A : Type 0} (n i : ℕ) (xs : List A) → slice_get (drop n xs) i ≡ slice_get xs (n + i)
-get_drop zero i xs = let same : 0 + i ≡ i = omega arith in sym (ap (slice_get xs) same)
-get_drop (suc n) i [] = refl
-get_drop (suc n) i (y ∷ xs) = let same : suc n + i ≡ suc (n + i) = omega arith in get_drop n i xs ∙ sym (ap
-    (slice_get (y ∷ xs)) same)
 
 -- ---- facts of each place
 

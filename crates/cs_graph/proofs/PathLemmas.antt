@@ -9,7 +9,7 @@ use Rattle.cs_graph.specs.declared.delays.Delays.{Delays}
 use Rattle.cs_graph.specs.declared.graph.Graph.{Graph}
 use Rattle.cs_graph.specs.Lags.{weight_under}
 use Rattle.cs_graph.specs.Period.{vertex_delay, pin_delay, edge_delay, edges_delay, path_delay, IsPath, HasNoRegister, IsPeriod}
-use Rattle.cs_graph.specs.Search.{IsWired, IsDriver, IsOrderUnder}
+use Rattle.cs_graph.specs.Order.{IsWired, IsDriver, IsOrder}
 use Rattle.cs_graph.specs.Arrivals.{arrival_of, AreAtMost, IsLatest, IsArrival}
 
 module _ (g : Graph) (lags : List ℤ) (delays : Delays) where
@@ -168,7 +168,7 @@ module _ (g : Graph) (lags : List ℤ) (delays : Delays) where
 
   -- what the next vertex reads has its arrival
   pub sweep_knows : (order : List ℕ) (k : ℕ) (arrivals : List ℕ) (period v : ℕ) → IsWired g
-      → IsOrderUnder g lags order
+      → IsOrder g lags order
       → IsSweep order k arrivals period → slice_get order k ≡ Some v → (i u : ℕ) → IsDriver g lags v i u
       → IsArrival g lags delays u (arrival_of arrivals u)
   sweep_knows order k arrivals period v wired ordered is at i u drives =
@@ -182,7 +182,7 @@ module _ (g : Graph) (lags : List ℤ) (delays : Delays) where
       is.right (ordered.place u) u (omega (arith, less, here, there, from)) (ordered.at u among)
 
   pub sweep_goes_on : (order : List ℕ) (k : ℕ) (arrivals : List ℕ) (period v latest : ℕ) → IsWired g
-      → IsOrderUnder g lags order → IsSweep order k arrivals period → slice_get order k ≡ Some v
+      → IsOrder g lags order → IsSweep order k arrivals period → slice_get order k ≡ Some v
       → IsArrival g lags delays v latest → latest ≤ k * 1000000 + 1000000
       → IsSweep order (k + 1) (set arrivals v latest) (max period latest)
   sweep_goes_on order k arrivals period v latest wired ordered is at new few = record {
@@ -286,7 +286,7 @@ module _ (g : Graph) (lags : List ℤ) (delays : Delays) where
       (wired.from e d found)
 
   pub sweep_ends : (order : List ℕ) (k : ℕ) (arrivals : List ℕ) (period : ℕ) → IsWired g
-      → IsOrderUnder g lags order
+      → IsOrder g lags order
       → IsSweep order k arrivals period → length order ≤ k → IsPeriod g delays lags period
   sweep_ends order k arrivals period wired ordered is all = record {
     within = λ u v es low leads free.

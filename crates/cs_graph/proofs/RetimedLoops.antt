@@ -5,7 +5,7 @@ use Rattle.std.proofs.lemmas.Int.{ints}
 use Rattle.cs_graph.specs.declared.graph.Graph.{Graph}
 use Rattle.cs_graph.specs.Lags.{lag_at}
 use Rattle.cs_graph.specs.Invariant.{HasOrder}
-use Rattle.cs_graph.specs.Search.{FeedsUnder, FedUnder, IsLoopUnder}
+use Rattle.cs_graph.specs.Order.{Feeds, IsFedAlong, IsLoop}
 
 -- v's lag is greater than u's by registers, and where there are none v stands before u
 record Falls (place : ℕ → ℕ) (lags : List ℤ) (v u : ℕ) : Type 0 where
@@ -25,7 +25,7 @@ none_of x y h = (omega (arith, h), omega (arith, h))
 no_gap : (x : ℕ) (a : ℤ) → a ≡ a +ℤ pos x → x ≡ 0
 no_gap x a h = omega (arith, ints)
 
-edge_falls : (g : Graph) (order : HasOrder g) (lags : List ℤ) (v u : ℕ) → FeedsUnder g lags v u
+edge_falls : (g : Graph) (order : HasOrder g) (lags : List ℤ) (v u : ℕ) → Feeds g lags v u
     → Falls order.place lags v u
 edge_falls g order lags v u (e, d, found, none, from, to) =
     let falls : lag_at lags d.from ≡ lag_at lags d.to +ℤ pos d.weight = gap d.weight (lag_at lags d.to)
@@ -41,7 +41,7 @@ edge_falls g order lags v u (e, d, found, none, from, to) =
     }
 
 along_falls : (g : Graph) (order : HasOrder g) (lags : List ℤ) (u : ℕ) (ws : List ℕ) (v : ℕ)
-    → FedUnder g lags u ws v
+    → IsFedAlong g lags u ws v
     → Falls order.place lags v u
 along_falls g order lags u [] v h = edge_falls g order lags v u h
 along_falls g order lags u (w ∷ ws) v (first, rest) =
@@ -58,7 +58,7 @@ along_falls g order lags u (w ∷ ws) v (first, rest) =
           omega (arith, a, b);
     }
 
-pub lags_no_loop : (g : Graph) (order : HasOrder g) (lags : List ℤ) (vs : List ℕ) → IsLoopUnder g lags vs → ⊥
+pub lags_no_loop : (g : Graph) (order : HasOrder g) (lags : List ℤ) (vs : List ℕ) → IsLoop g lags vs → ⊥
 lags_no_loop g order lags [] h = h
 lags_no_loop g order lags (v ∷ vs) h =
     let falls = along_falls g order lags v vs v h in

@@ -3,7 +3,7 @@ use Rattle.std.specs.Prelude.{◌≡◌, ℕ, ◌+◌, ◌≤◌, ◌⊎◌, ℤ
 use Rattle.cs_graph.specs.declared.delays.Delays.{Delays}
 use Rattle.cs_graph.specs.declared.graph.Graph.{Graph}
 use Rattle.cs_graph.specs.Period.{vertex_delay, pin_delay, IsPath, HasNoRegister, path_delay}
-use Rattle.cs_graph.specs.Search.{IsDriver}
+use Rattle.cs_graph.specs.Order.{IsDriver}
 
 -- the arrival at a vertex, 0 past the end of the list
 abbrev pub arrival_of : List ℕ → ℕ → ℕ

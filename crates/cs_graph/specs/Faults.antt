@@ -4,7 +4,7 @@ use Rattle.cs_base.specs.declared.limit.LimitFault.{LimitFault}
 use Rattle.cs_graph.specs.declared.error.BuildError.{BuildError}
 use Rattle.cs_graph.specs.declared.error.BuildError.TheVariants.{Limit, Open, Loop, NoMemory}
 use Rattle.cs_graph.specs.Draft.{Draft, AreFed, IsFirstOpen, built}
-use Rattle.cs_graph.specs.Order.{IsLoop}
+use Rattle.cs_graph.specs.Order.{IsSimpleLoop, no_lags}
 
 -- the error tells this fault, or that memory ran out
 abbrev pub TellsLimit : Option LimitFault → BuildError → Type 0
@@ -13,9 +13,10 @@ TellsLimit fault (Open v i) = ⊥
 TellsLimit fault (Loop vs) = ⊥
 TellsLimit fault NoMemory = Unit {0}
 
--- the error tells the first open pin, or a loop of weight 0 where every pin is fed, or that memory ran out
+-- the error tells the first open pin, or, where every pin is fed, a loop of weight 0 that comes to no vertex
+-- twice, or that memory ran out
 abbrev pub TellsUnfinished : Draft → BuildError → Type 0
 TellsUnfinished d (Limit f) = ⊥
 TellsUnfinished d (Open v i) = IsFirstOpen d.vertices v i
-TellsUnfinished d (Loop vs) = AreFed d.vertices × IsLoop (built d) vs
+TellsUnfinished d (Loop vs) = AreFed d.vertices × IsSimpleLoop (built d) no_lags vs
 TellsUnfinished d NoMemory = Unit {0}

@@ -9,5 +9,4 @@ pub mod Past
 pub mod Period
 pub mod Draft
 pub mod Faults
-pub mod Search
 pub mod Arrivals

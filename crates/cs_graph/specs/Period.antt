@@ -1,5 +1,5 @@
 -- Delays of paths, periods, and the path matrices W and D (Leiserson and Saxe).
-use Rattle.std.specs.Prelude.{◌≡◌, ℕ, ◌+◌, ◌<◌, ◌≤◌, ◌⊎◌, ℤ, pos, List, [], ◌∷◌, length, get_or, slice_get, Option, Some, None}
+use Rattle.std.specs.Prelude.{◌≡◌, ℕ, ◌+◌, ◌<◌, ◌≤◌, ◌⊎◌, ℤ, pos, ◌+ℤ◌, map, List, [], ◌∷◌, length, get_or, slice_get, Option, Some, None}
 use Rattle.cs_base.specs.declared.contexts.Mode.{Mode}
 use Rattle.cs_graph.specs.declared.vertex.Vertex.{Vertex}
 use Rattle.cs_graph.specs.declared.edge.Edge.{Edge}
@@ -56,6 +56,26 @@ edge_weight (Some d) = d.weight
 abbrev pub path_weight : Graph → List ℕ → ℕ
 path_weight g [] = 0
 path_weight g (e ∷ es) = edge_weight (slice_get g.edges e) + path_weight g es
+
+-- the registers of an edge under these lags
+abbrev pub edge_weight_under : List ℤ → Option Edge → ℤ
+edge_weight_under lags None = pos 0
+edge_weight_under lags (Some d) = weight_under lags d
+
+-- the registers of a path under these lags
+abbrev pub path_weight_under : Graph → List ℤ → List ℕ → ℤ
+path_weight_under g lags [] = pos 0
+path_weight_under g lags (e ∷ es) =
+    edge_weight_under lags (slice_get g.edges e) +ℤ path_weight_under g lags es
+
+-- the vertex that an edge leads to
+abbrev pub edge_end : Option Edge → ℕ
+edge_end None = 0
+edge_end (Some d) = d.to
+
+-- the vertices of a path from u, in order
+abbrev pub path_vertices : Graph → ℕ → List ℕ → List ℕ
+path_vertices g u es = u ∷ map (λ e. edge_end (slice_get g.edges e)) es
 
 -- no edge has a register under these lags
 abbrev pub HasNoRegister : Graph → List ℤ → List ℕ → Type 0

@@ -3,7 +3,7 @@ ghost use Rattle.std.specs.Prelude.{◌≡◌, ◌≢◌, ℕ, List, ◌<◌, �
 ghost use Rattle.std.specs.List.{sum_by};
 ghost use Rattle.cs_graph.specs.Draft.{host_alone, IsDraft, open_kinds, IsOpen, with_source, vertex_fault, edge_fault, edge_count, weight, built, AreFed};
 ghost use Rattle.cs_graph.specs.Faults.{TellsLimit, TellsUnfinished};
-ghost use Rattle.cs_graph.specs.Order.{IsLoop};
+ghost use Rattle.cs_graph.specs.Order.{IsLoop, no_lags};
 ghost use Rattle.cs_graph.specs.Invariant.{IsMemory, HasMemory, IsNextPort, HasOutput};
 ghost use Rattle.cs_graph.specs.Kinds.{pin_count, output_count, read_width};
 ghost use Rattle.cs_graph.specs.declared.vertex.VertexKind.TheVariants.{Host};
@@ -217,11 +217,11 @@ impl MachineBuilder {
 
     /// The machine of exactly what was given, its edges numbered by vertex, then by pin. `Open` comes exactly
     /// where a pin isn't fed, and names the first; `Loop` exactly where every pin is fed and edges of weight 0
-    /// form a loop, and is such a loop. The builder is spent.
+    /// form a loop, and is such a loop, with no vertex twice. The builder is spent.
     pub fn finish(self, alloc: Global) -> Result<Machine, BuildError>
         ensures ok { IfOk result (λ machine. machine ≡ built self) }
         ensures fed { OnOk result (AreFed self.vertices) }
-        ensures no_loop { OnOk result ((vertices : List ℕ) → IsLoop (built self) vertices → ⊥) }
+        ensures no_loop { OnOk result ((vertices : List ℕ) → IsLoop (built self) no_lags vertices → ⊥) }
         ensures cause { IfErr result (TellsUnfinished self) }
     {
         let MachineBuilder {

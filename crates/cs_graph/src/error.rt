@@ -9,7 +9,7 @@ pub enum BuildError {
     Limit(LimitFault),
     /// This pin, the first of all, isn't fed.
     Open { vertex: VertexId, pin: u32 },
-    /// Each of these vertices is fed by the next by an edge of weight 0, and the last one by the first.
+    /// Each of these vertices, none twice, is fed by the next by an edge of weight 0, and the last one by the first.
     Loop { vertices: Sequence<VertexId> },
     /// Memory ran out.
     NoMemory,

@@ -1,13 +1,16 @@
 // Laws of machines. Each is a function without effect, whose clauses are the law.
-ghost use Rattle.std.specs.Prelude.{◌≡◌, ◌<◌, ◌≤◌, ◌↔◌, ◌+ℤ◌, ◌<ℤ◌, pos, ℤ, ℕ, Bool, false, List, []};
+ghost use Rattle.std.specs.Prelude.{◌≡◌, ◌<◌, ◌≤◌, ◌↔◌, ◌+ℤ◌, ◌-ℤ◌, ◌<ℤ◌, pos, ℤ, ℕ, Bool, false, List, [], ◌∷◌, length};
 ghost use Rattle.cs_base.specs.Parts.{part};
 ghost use Rattle.cs_base.specs.declared.contexts.Mode.{Mode};
 ghost use Rattle.cs_cells.specs.Memories.{Words};
+ghost use Rattle.cs_order.specs.Graphs.{HasNoRepeat};
 ghost use Rattle.cs_graph.specs.Invariant.{IsWellFormed};
 ghost use Rattle.cs_graph.specs.Lags.{lag_at, IsLegal, AreWithin, Contents, retimed, Justifies, HasStart};
 ghost use Rattle.cs_graph.specs.Past.{Past, lead, IsPast, AreRight, HasPast, HasPastOf, IsSlowedBy};
+ghost use Rattle.cs_graph.specs.Period.{IsLeastWeight, IsPath, IsPeriod, path_vertices, path_weight, path_weight_under};
 ghost use Rattle.cs_graph.specs.Run.{Row, Outs, RunsFor, HasOneRun, RunsWith};
 ghost use Rattle.cs_graph.specs.Slow.{slow};
+ghost use Rattle.cs_graph.specs.declared.delays.Delays.{Delays};
 ghost use Rattle.cs_graph.specs.declared.graph.Graph.{Graph};
 
 use crate::machine::Machine;
@@ -62,6 +65,33 @@ pub fn starts(machine: &Machine)
         → HasPast machine.now lags ↔ ((k : ℕ) → k < c → HasPastOf machine.now lags c k) }
     ensures pass { (lags lags' : List ℤ) → ((v : ℕ) → lead (lag_at lags v) ≤ lead (lag_at lags' v))
         → HasPast machine.now lags' → HasPast machine.now lags }
+{
+    machine.keeps();
+}
+
+/// Lags have one period.
+pub fn one_period()
+    ensures { (g : Graph) (delays : Delays) (lags : List ℤ) (period period' : ℕ) → IsPeriod g delays lags period
+        → IsPeriod g delays lags period' → period ≡ period' }
+{}
+
+/// Along a path lags change the registers only by those of its ends.
+pub fn registers_of_paths()
+    ensures { (g : Graph) (lags : List ℤ) (u v : ℕ) (es : List ℕ) → IsPath g u es v → path_weight_under g lags es
+        ≡ pos (path_weight g es) +ℤ lag_at lags v -ℤ lag_at lags u }
+{}
+
+/// A path of a machine that leads back to where it begins has a register; so a path with the least registers comes
+/// to no vertex twice, and has fewer edges than there are vertices.
+pub fn least_paths(machine: &Machine)
+    ensures closed { (v e : ℕ) (es : List ℕ) → IsPath machine.now v (e ∷ es) v
+        → 0 < path_weight machine.now (e ∷ es) }
+    ensures simple { (u v weight : ℕ) (es : List ℕ) → IsLeastWeight machine.now u v weight
+        → IsPath machine.now u es v → path_weight machine.now es ≡ weight
+        → HasNoRepeat (path_vertices machine.now u es) }
+    ensures short { (u v weight : ℕ) (es : List ℕ) → u < length machine.now.vertices
+        → IsLeastWeight machine.now u v weight → IsPath machine.now u es v
+        → path_weight machine.now es ≡ weight → length es < length machine.now.vertices }
 {
     machine.keeps();
 }

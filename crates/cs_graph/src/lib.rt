@@ -14,7 +14,6 @@ mod memory;
 mod numbering;
 mod order;
 mod period;
-mod search;
 mod source;
 mod vertex;
 
@@ -24,7 +23,10 @@ pub use edge::Edge;
 pub use error::BuildError;
 pub use graph::Graph;
 pub use lags::are_within;
-pub use laws::{contexts_alone, one_run, right_contents, starts, values_ahead};
+pub use laws::{
+    contexts_alone, least_paths, one_period, one_run, registers_of_paths, right_contents, starts,
+    values_ahead,
+};
 pub use machine::Machine;
 pub use memory::Memory;
 pub use vertex::{Feed, Pins, Vertex, VertexKind};

@@ -1,7 +1,7 @@
 // Machines: a graph that keeps its invariant, with an order of its vertices.
 ghost use Rattle.std.specs.Prelude.{◌≡◌, ◌<◌, ◌≤◌, ◌^◌, length, slice_get, Some, IfOk, IsTrue, ◌↔◌};
 ghost use Rattle.cs_graph.specs.Invariant.{IsMachine};
-ghost use Rattle.cs_graph.specs.Order.{IsOrder};
+ghost use Rattle.cs_graph.specs.Order.{IsOrder, no_lags};
 ghost use Rattle.cs_graph.specs.Kinds.{is_pinned};
 ghost use Rattle.cs_graph.specs.Lags.{weight_under, AreWithin, IsLegal};
 ghost use Rattle.cs_graph.specs.Period.{AreDelaysOf, ArePinsOf, IsPeriod};
@@ -31,20 +31,20 @@ pub struct Machine {
 impl Model for Machine {
     ghost use Rattle.cs_graph.specs.declared.graph.Graph.{Graph};
     ghost use Rattle.cs_graph.specs.Invariant.{IsMachine};
-    ghost use Rattle.cs_graph.specs.Order.{IsOrder};
+    ghost use Rattle.cs_graph.specs.Order.{IsOrder, no_lags};
 
     ghost Value = { Graph };
 
     ghost view = { λ m. m.graph };
 
-    ghost invariant = { λ m. IsMachine m.graph × IsOrder m.graph m.order };
+    ghost invariant = { λ m. IsMachine m.graph × IsOrder m.graph no_lags m.order };
 }
 
 impl Machine {
     /// A machine of these parts; it takes no memory.
     pub(crate) fn from_parts(graph: Graph, order: Sequence<VertexId>) -> Machine
         requires graph { IsMachine graph }
-        requires order { IsOrder graph order }
+        requires order { IsOrder graph no_lags order }
         ensures { result ≡ graph }
     {
         Machine { graph, order }
@@ -110,7 +110,7 @@ impl Machine {
 
     /// The vertices, each once, each after all that feed it by an edge of weight 0.
     pub fn order(&self) -> &[VertexId]
-        ensures { IsOrder self.now result.now }
+        ensures { IsOrder self.now no_lags result.now }
     {
         self.order.as_slice()
     }

@@ -1,21 +1,21 @@
-// An order of the vertices in which each comes after all that it sees in the same clock, by a depth-first search
-// with a list of its own, which looks at each pin once or twice.
-ghost use Rattle.std.specs.Prelude.{◌≡◌, ℕ, ◌<◌, ◌^◌, ◌-◌, [], IfErr, IfNone, IfOk, IfSome, OnOk, Some, drop, length, slice_get};
+// An order of the vertices in which each comes after all that it sees in the same clock: an order of the graph in
+// which each depends on those that it reads without a register.
+ghost use Rattle.std.specs.Prelude.{◌≡◌, ℕ, ◌<◌, ◌^◌, All, IfErr, IfNone, IfOk, IfSome, OnOk, Some, length, slice_get};
 ghost use Rattle.cs_graph.specs.Lags.{AreWithin};
-ghost use Rattle.cs_graph.specs.Search.{IsDriver, IsMet, IsOrderUnder, IsSearch, IsWired, Keeps, TellsLoop, turns};
+ghost use Rattle.cs_graph.specs.Order.{AreDependencies, IsAdded, IsDriver, IsOrder, IsWired, TellsLoop};
 ghost use Rattle.cs_graph.specs.declared.vertex.Vertex.{Vertex as VertexValue};
 
 use crate::graph::Graph;
 use crate::lags::weight_of;
-use crate::search::{Mark, Search};
 use crate::vertex::Feed;
 use cs_base::{Sequence, VertexId};
+use cs_order::{Arrangement, Dependencies, arrange};
 use std::alloc::{AllocError, Global};
 
 /// Why there is no order.
 #[derive(Debug, Drop)]
 pub enum OrderError {
-    /// Each of these vertices is fed by the next without a register, and the last one by the first.
+    /// Each of these vertices, none twice, is fed by the next without a register, and the last one by the first.
     Loop(Sequence<VertexId>),
     /// Memory ran out.
     NoMemory,
@@ -53,104 +53,56 @@ pub(crate) fn driver(graph: &Graph, lags: &[i64], v: VertexId, pin: usize) -> Op
     }
 }
 
-/// The vertices from a place of the stack on.
-fn stack_from(
-    alloc: Global,
-    stack: &[VertexId],
-    depth: usize,
-) -> Result<Sequence<VertexId>, AllocError>
-    requires { depth < length stack.now }
-    ensures { IfOk result (λ vertices. vertices ≡ drop depth stack.now) }
-{
-    let vertices = stack[depth..].iter().copied().collect(alloc)?;
-    Ok(Sequence::from_vec(vertices))
-}
-
-/// Looks at the next pin of the vertex that the search is at, or comes back from it where none is left.
-fn step(
-    alloc: Global,
+/// Adds a vertex that depends on those that `v` reads without a register.
+fn add_vertex(
+    dependencies: &mut Dependencies,
     graph: &Graph,
     lags: &[i64],
-    search: &mut Search,
-    top: VertexId,
-) -> Result<(), OrderError>
+    v: VertexId,
+) -> Result<(), AllocError>
     requires wired { IsWired graph.now }
     requires reach { AreWithin (2 ^ 31) lags.now }
-    requires search { IsSearch graph.now lags.now search.old }
-    requires top { slice_get search.old.stack (length search.old.stack - 1) ≡ Some top }
-    ensures search { OnOk result (IsSearch graph.now lags.now search.new) }
-    ensures keeps { OnOk result (Keeps search.old.marks search.new.marks) }
-    ensures turns { OnOk result (turns search.new < turns search.old) }
-    ensures err { IfErr result (TellsLoop graph.now lags.now) }
+    requires vertex { v < length graph.now.vertices }
+    ensures { OnOk result (IsAdded graph.now lags.now v dependencies.old dependencies.new) }
 {
-    let left = search.left(top);
-    if left == 0 {
-        search.close(top)?;
-        return Ok(());
-    }
-    let Some(u) = driver(graph, lags, top, left - 1) else {
-        search.leave(top, left - 1);
-        return Ok(());
-    };
-    match search.mark(u) {
-        Mark::New => {
-            search.open(u)?;
-            Ok(())
+    dependencies.push_vertex()?;
+    let vertex = &graph.vertices.as_slice()[v.get() as usize];
+    for pin in 0..vertex.pins.len() {
+        if let Some(u) = driver(graph, lags, v, pin) {
+            dependencies.push_source(u.get() as usize)?;
         }
-        Mark::Done(_) => {
-            search.leave(top, left - 1);
-            Ok(())
-        }
-        Mark::Open(depth) => {
-            let vertices = stack_from(alloc, search.stack(), depth)?;
-            Err(OrderError::Loop(vertices))
-        }
-    }
-}
-
-/// Goes on until the search is back from all that it met.
-fn run(alloc: Global, graph: &Graph, lags: &[i64], search: &mut Search) -> Result<(), OrderError>
-    requires wired { IsWired graph.now }
-    requires reach { AreWithin (2 ^ 31) lags.now }
-    requires search { IsSearch graph.now lags.now search.old }
-    ensures search { OnOk result (IsSearch graph.now lags.now search.new) }
-    ensures back { OnOk result (search.new.stack ≡ []) }
-    ensures keeps { OnOk result (Keeps search.old.marks search.new.marks) }
-    ensures err { IfErr result (TellsLoop graph.now lags.now) }
-{
-    while let Some(top) = search.top() {
-        step(alloc, graph, lags, search, top)?;
     }
     Ok(())
 }
 
-/// Searches from a vertex that wasn't met.
-fn visit(
+/// The graph in which each vertex depends on those that it reads without a register.
+fn dependencies_under(
     alloc: Global,
     graph: &Graph,
     lags: &[i64],
-    search: &mut Search,
-    v: VertexId,
-) -> Result<(), OrderError>
+) -> Result<Dependencies, AllocError>
     requires wired { IsWired graph.now }
     requires reach { AreWithin (2 ^ 31) lags.now }
-    requires search { IsSearch graph.now lags.now search.old }
-    requires back { search.old.stack ≡ [] }
-    requires among { v < length graph.now.vertices }
-    ensures search { OnOk result (IsSearch graph.now lags.now search.new) }
-    ensures back { OnOk result (search.new.stack ≡ []) }
-    ensures keeps { OnOk result (Keeps search.old.marks search.new.marks) }
-    ensures met { OnOk result (IsMet search.new.marks v) }
-    ensures err { IfErr result (TellsLoop graph.now lags.now) }
+    requires few { length graph.now.vertices < 2 ^ 32 }
+    ensures { IfOk result (AreDependencies graph.now lags.now (length graph.now.vertices)) }
 {
-    match search.mark(v) {
-        Mark::Open(_) | Mark::Done(_) => Ok(()),
-        Mark::New => {
-            search.open(v)?;
-            run(alloc, graph, lags, search)?;
-            Ok(())
-        }
+    let mut dependencies = Dependencies::new(alloc);
+    for v in 0..graph.vertices.len() as u32 {
+        add_vertex(&mut dependencies, graph, lags, VertexId::new(v))?;
     }
+    Ok(dependencies)
+}
+
+/// The vertices of these numbers.
+fn vertices_of(alloc: Global, numbers: &[usize]) -> Result<Sequence<VertexId>, AllocError>
+    requires { All (λ v. v < 2 ^ 32) numbers.now }
+    ensures { IfOk result (λ vertices. vertices ≡ numbers.now) }
+{
+    let vertices = numbers
+        .iter()
+        .map(|v| VertexId::new(*v as u32))
+        .collect(alloc)?;
+    Ok(Sequence::from_vec(vertices))
 }
 
 /// The vertices, each once, each after all that feed it without a register under these lags.
@@ -162,12 +114,14 @@ pub(crate) fn order_under(
     requires wired { IsWired graph.now }
     requires reach { AreWithin (2 ^ 31) lags.now }
     requires few { length graph.now.vertices < 2 ^ 32 }
-    ensures ok { IfOk result (λ order. IsOrderUnder graph.now lags.now order) }
+    ensures ok { IfOk result (λ order. IsOrder graph.now lags.now order) }
     ensures err { IfErr result (TellsLoop graph.now lags.now) }
 {
-    let mut search = Search::new(alloc, graph.vertices.as_slice())?;
-    for v in 0..graph.vertices.len() as u32 {
-        visit(alloc, graph, lags, &mut search, VertexId::new(v))?;
+    let dependencies = dependencies_under(alloc, graph, lags)?;
+    match arrange(alloc, &dependencies)? {
+        Arrangement::Order(order) => Ok(vertices_of(alloc, order.as_slice())?),
+        Arrangement::Loop(vertices) => {
+            Err(OrderError::Loop(vertices_of(alloc, vertices.as_slice())?))
+        }
     }
-    Ok(Sequence::from_vec(search.into_order()))
 }

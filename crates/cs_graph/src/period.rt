@@ -4,7 +4,7 @@ ghost use Rattle.std.specs.Prelude.{◌≡◌, ℕ, ◌+◌, ◌<◌, ◌≤◌,
 ghost use Rattle.cs_graph.specs.Arrivals.{AreAtMost, IsLatest};
 ghost use Rattle.cs_graph.specs.Lags.{AreWithin};
 ghost use Rattle.cs_graph.specs.Period.{AreDelaysOf, IsPeriod};
-ghost use Rattle.cs_graph.specs.Search.{IsWired, IsOrderUnder};
+ghost use Rattle.cs_graph.specs.Order.{IsOrder, IsWired};
 
 use crate::delays::Delays;
 use crate::graph::Graph;
@@ -53,7 +53,7 @@ pub(crate) fn period_along(
     requires wired { IsWired graph.now }
     requires reach { AreWithin (2 ^ 31) lags.now }
     requires delays { AreDelaysOf graph.now delays.now }
-    requires order { IsOrderUnder graph.now lags.now order.now }
+    requires order { IsOrder graph.now lags.now order.now }
     requires few { length graph.now.vertices ≤ 4096 }
     ensures { IfOk result (λ period. IsPeriod graph.now delays.now lags.now period) }
 {

@@ -50,6 +50,33 @@ fn machine_builder(rt: HostRuntime) {
     assert!(rt; is_inverter(&inverter));
 }
 
+// Whether it is a loop of these two vertices, which may begin at either.
+fn is_loop_of(built: &Result<Machine, BuildError>, first: VertexId, second: VertexId) -> bool {
+    let Err(BuildError::Loop { vertices }) = built else {
+        return false;
+    };
+    vertices.as_slice() == [first, second].as_slice()
+        || vertices.as_slice() == [second, first].as_slice()
+}
+
+// Inverter 1 reads inverter 2, and this reads gate 3, which reads inverter 2 by both pins.
+#[test]
+fn loop_names_each_vertex_once(rt: HostRuntime) {
+    let kinds = [
+        VertexKind::Gate(Kind::Not),
+        VertexKind::Gate(Kind::Not),
+        VertexKind::Gate(Kind::And),
+    ];
+    let wires: [Wire<'_>; 4] = [
+        (1, 0, 2, &[]),
+        (2, 0, 3, &[]),
+        (3, 0, 2, &[]),
+        (3, 1, 2, &[]),
+    ];
+    let built = machine(&rt, rt.alloc(), &kinds, &wires);
+    assert!(rt; is_loop_of(&built, VertexId::new(2), VertexId::new(3)));
+}
+
 // Input 1, output 2, inverters 3 and 4 and an exclusive or 5 that reads the input and inverter 4, each through a
 // register; inverter 4 goes to the output through a register.
 const KINDS: [VertexKind; 5] = [

@@ -1,59 +1,43 @@
--- Vertex by vertex.
-use Rattle.std.proofs.Common.{◌≡◌, [], List, replicate, length, map, ap, ◌∙◌, sym, subst, arith}
-use Rattle.cs_graph.specs.declared.search.Mark.TheVariants.{New}
-use Rattle.cs_graph.specs.declared.vertex.Vertex.{Vertex}
-use Rattle.cs_graph.specs.Search.{State, IsSearch, IsMet, IsOrderUnder}
-use Rattle.cs_graph.proofs.SearchEnds.{first_state, search_begins, search_ends, met_next}
+-- What is arranged, as vertices.
+use Rattle.std.proofs.Common.{◌≡◌, ◌<◌, ◌^◌, ℕ, List, sym, ◌∙◌, subst, arith}
+use Rattle.std.specs.Prelude.{All}
+use Rattle.cs_graph.specs.Order.{IsOrder, IsSimpleLoop}
+use Rattle.cs_graph.proofs.OrderLemmas.{order_among, loop_among, simple_loop, order_ordered}
 use Rattle.cs_graph.proofs.order.order_under.Goals as goal
 
-first : (vs ws : List Vertex) → vs ≡ ws → ◌≡◌ {A = State}
-    (record {
-      marks = replicate (length vs) New;
-      left = map (λ (x : Vertex). length x.pins) vs;
-      stack = [];
-      order = [];
-    })
-    (record {
-      marks = replicate (length ws) New;
-      left = map (λ (x : Vertex). length x.pins) ws;
-      stack = [];
-      order = [];
-    })
-first vs ws same = ap (λ (xs : List Vertex). record {
-  marks = replicate (length xs) New;
-  left = map (λ (x :
-      Vertex). length x.pins) xs;
-  stack = [];
-  order = [];
-}) same
+few : (most : ℕ) (vs ws : List ℕ) → most < 2 ^ 32 → All (λ v. v < most) vs → ws ≡ vs
+    → All (λ v. v < 2 ^ 32) ws
+few most vs ws below all same = subst (All (λ v. v < 2 ^ 32)) (sym same)
+    (λ k d low. let here = all k d low in omega (arith, here, below))
 
-pub loop-v-init : goal.loop-v-init
-loop-v-init c =
-    let start : c.in_ok-search.search ≡ first_state c.args.graph.now =
-    c.in_ok-search.ensures ∙ first c.as_slice.result.now c.args.graph.now.vertices c.as_slice.ensures in
-    record {
-      search = subst (IsSearch c.args.graph.now c.args.lags.now) (sym start) (search_begins
-          c.args.graph.now c.args.lags.now);
-      back = ap (λ (s : State). s.stack) start;
-      met = λ u none. absurd (omega (arith, none));
-    }
+pub vertices_of-requires : goal.vertices_of-requires
+vertices_of-requires c =
+    let is = rw c.in-Order.is at c.in_ok-order.ensures.order in
+    few _ c.in-Order.order.items c.as_slice.result.now c.requires.few
+    (order_among c.args.graph.now c.args.lags.now c.requires.wired _ c.in_ok-dependencies.ensures
+    c.in-Order.order.items is)
+    c.as_slice.ensures.value
 
-pub loop-v-preserved : goal.loop-v-preserved
-loop-v-preserved c =
-    let visited = c.in_ok-visit.ensures in
-    let id = c.new-in-loop-v.ensures in
-    record {
-      search = visited.search;
-      back = visited.back;
-      met = met_next c.loop-v.search.marks c.visit.new.search.marks c.loop-v.v c.loop-v.invariant.met
-          visited.keeps
-          (subst (IsMet c.visit.new.search.marks) id visited.met);
-    }
+pub vertices_of-requires-in-Loop : goal.vertices_of-requires-in-Loop
+vertices_of-requires-in-Loop c =
+    let closed = rw c.in-Loop.is at c.in_ok-order.ensures.loop_found in
+    few _ c.in-Loop.vertices.items c.as_slice-in-Loop.result.now c.requires.few
+    (loop_among c.args.graph.now c.args.lags.now c.requires.wired _ c.in_ok-dependencies.ensures
+    c.in-Loop.vertices.items closed)
+    c.as_slice-in-Loop.ensures.value
 
-pub returns-clause-ok : goal.returns-clause-ok
-returns-clause-ok c =
-    let made = c.from_vec.ensures ∙ c.into_order.ensures in
-    subst (IsOrderUnder c.args.graph.now c.args.lags.now) (sym made)
-    (search_ends c.args.graph.now c.args.lags.now c.loop-v.search c.requires.wired c.loop-v.invariant.search
-    c.loop-v.invariant.back
-    (λ v low. c.loop-v.invariant.met v (omega (arith, low, c.loop-v-test.false, c.len-v-end.ensures))))
+pub returns-in-Order-clause-ok : goal.returns-in-Order-clause-ok
+returns-in-Order-clause-ok c =
+    let is = rw c.in-Order.is at c.in_ok-order.ensures.order in
+    subst (IsOrder c.args.graph.now c.args.lags.now)
+    (sym (c.in_ok-vertices_of-in-Order.ensures ∙ c.as_slice.ensures.value))
+    (order_ordered c.args.graph.now c.args.lags.now c.requires.wired _ c.in_ok-dependencies.ensures
+    c.in-Order.order.items is)
+
+pub returns-clause-err : goal.returns-clause-err
+returns-clause-err c =
+    let closed = rw c.in-Loop.is at c.in_ok-order.ensures.loop_found in
+    subst (IsSimpleLoop c.args.graph.now c.args.lags.now)
+    (sym (c.in_ok-vertices_of-in-Loop.ensures ∙ c.as_slice-in-Loop.ensures.value))
+    (simple_loop c.args.graph.now c.args.lags.now c.requires.wired _ c.in_ok-dependencies.ensures
+    c.in-Loop.vertices.items closed)

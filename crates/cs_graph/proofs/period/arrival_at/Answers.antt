@@ -1,7 +1,7 @@
 -- Pin by pin.
 use Rattle.std.proofs.Common.{◌+◌, get_or, max, sym, ap, ap₂, ◌∙◌, subst, arith}
 use Rattle.cs_graph.proofs.LagLemmas.{got}
-use Rattle.cs_graph.proofs.SearchEnds.{driver_one}
+use Rattle.cs_graph.proofs.OrderLemmas.{driver_one}
 use Rattle.cs_graph.proofs.ArrivalLemmas.{IsLatestSoFar, latest_begins, latest_passes, latest_goes_on, latest_ends, pin_delay_few, vertex_delay_few}
 use Rattle.cs_graph.proofs.period.arrival_at.Goals as goal
 use Rattle.cs_graph.proofs.period.arrival_at.Goals.{in-Some, in_default}

@@ -1,14 +1,13 @@
 -- The machine of what the builder holds.
-use Rattle.std.proofs.Common.{◌^◌, ◌<◌, List, [], length, sym, ap, ◌∙◌, subst, arith}
+use Rattle.std.proofs.Common.{◌^◌, ◌<◌, List, length, sym, ap, ◌∙◌, subst, arith}
 use Rattle.std.specs.Prelude.{slice_get}
 use Rattle.cs_graph.specs.declared.source.OpenVertex.{OpenVertex}
 use Rattle.cs_graph.specs.declared.graph.Graph.{Graph}
 use Rattle.cs_graph.specs.Draft.{Draft, AreFed, built}
 use Rattle.cs_graph.specs.Invariant.{IsMachine}
-use Rattle.cs_graph.specs.Search.{IsWired, IsLoopUnder, TellsLoop, IsOrderUnder}
-use Rattle.cs_graph.specs.Order.{IsOrder}
+use Rattle.cs_graph.specs.Order.{IsWired, IsLoop, IsSimpleLoop, IsOrder, TellsLoop, no_lags}
 use Rattle.cs_graph.proofs.BuiltLemmas.{built_wired, length_vertices_from}
-use Rattle.cs_graph.proofs.FinishLemmas.{draft_pins_few, finished, loop_plain, order_plain, order_no_loop}
+use Rattle.cs_graph.proofs.FinishLemmas.{draft_pins_few, finished, no_loop}
 use Rattle.cs_graph.proofs.builder.MachineBuilder.finish.Goals as goal
 
 pub first_open-requires-clause-pins : goal.first_open-requires-clause-pins
@@ -39,12 +38,11 @@ order_under-requires-clause-few c =
 pub from_parts-requires : goal.from_parts-requires
 from_parts-requires c =
     let d : Draft = record { vertices = c.self.inside.vertices.items; memories = c.self.inside.memories } in
-    let order = subst (λ (g : Graph). IsOrderUnder g [] c.in-Ok.order) c.in_ok-graph.ensures
+    let order = subst (λ (g : Graph). IsOrder g no_lags c.in-Ok.order) c.in_ok-graph.ensures
     c.in-Ok.ensures.ok in
-    let both = finished d c.in-Ok.order c.self.invariant.0 order in
     record {
-      graph = subst IsMachine (sym c.in_ok-graph.ensures) both.0;
-      order = subst (λ (g : Graph). IsOrder g c.in-Ok.order) (sym c.in_ok-graph.ensures) both.1;
+      graph = subst IsMachine (sym c.in_ok-graph.ensures) (finished d c.in-Ok.order c.self.invariant.0 order);
+      order = c.in-Ok.ensures.ok;
     }
 
 pub returns-in-Ok-clause-fed : goal.returns-in-Ok-clause-fed
@@ -54,17 +52,17 @@ returns-in-Ok-clause-fed c =
 
 pub returns-in-Ok-clause-no_loop : goal.returns-in-Ok-clause-no_loop
 returns-in-Ok-clause-no_loop c = λ vertices is_loop.
-    let order = subst (λ (g : Graph). IsOrderUnder g [] c.in-Ok.order) (c.in_ok-graph.ensures ∙ ap built
-    c.self.view_is) c.in-Ok.ensures.ok in
-    order_no_loop (built c.args.self) c.in-Ok.order vertices (order_plain (built c.args.self) c.in-Ok.order
-    order) is_loop
+    let d : Draft = record { vertices = c.self.inside.vertices.items; memories = c.self.inside.memories } in
+    let order = subst (λ (g : Graph). IsOrder g no_lags c.in-Ok.order) c.in_ok-graph.ensures
+    c.in-Ok.ensures.ok in
+    no_loop d c.in-Ok.order vertices c.self.invariant.0 order
+    (subst (λ (d : Draft). IsLoop (built d) no_lags vertices) (sym c.self.view_is) is_loop)
 
 pub returns-in-Err-Loop-clause-cause : goal.returns-in-Err-Loop-clause-cause
 returns-in-Err-Loop-clause-cause c = (
   subst (λ (d : Draft). AreFed d.vertices) c.self.view_is (subst AreFed c.as_slice.ensures.value
       c.in_default.ensures.none),
-  loop_plain (built c.args.self) c.in-Err-Loop.vertices
-      (subst (λ (g : Graph). IsLoopUnder g [] c.in-Err-Loop.vertices) (c.in_ok-graph.ensures ∙ ap built
+  subst (λ (g : Graph). IsSimpleLoop g no_lags c.in-Err-Loop.vertices) (c.in_ok-graph.ensures ∙ ap built
       c.self.view_is)
-      (subst (λ e. TellsLoop c.in_ok-graph.graph [] e) c.in-Err-Loop.field-0-is c.in-Err-Loop.ensures.err)),
+      (subst (λ e. TellsLoop c.in_ok-graph.graph no_lags e) c.in-Err-Loop.field-0-is c.in-Err-Loop.ensures.err),
 )
