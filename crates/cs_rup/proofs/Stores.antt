@@ -21,6 +21,16 @@ at_push (z ∷ zs) y (suc i) x is = elim (at_push zs y i x is) [
   | inr last ↦ inr (ap suc last.0, last.1)
 ]
 
+pub get_push : {X : Type 0} (xs : List X) (y : X) → slice_get (xs ++ y ∷ []) (length xs) ≡ Some y
+get_push [] y = refl
+get_push (x ∷ xs) y = get_push xs y
+
+pub get_push_before : {X : Type 0} (xs : List X) (y : X) (i : ℕ) (x : X) → slice_get xs i ≡ Some x
+    → slice_get (xs ++ y ∷ []) i ≡ Some x
+get_push_before [] y i x is = cc
+get_push_before (z ∷ zs) y zero x is = is
+get_push_before (z ∷ zs) y (suc i) x is = get_push_before zs y i x is
+
 pub grow_same : (lists : Lists) → ListsGrow lists lists
 grow_same lists = record { count = refl; keeps = λ lit place has. has }
 

@@ -1,20 +1,28 @@
 -- What propagation keeps, and what it has at its end.
-use Rattle.std.proofs.Common.{◌≡◌, ℕ, ◌+◌, ◌<◌, ◌≤◌, Bool, true, false, ◌⊎◌, inl, inr, List, length, Some, refl, sym, arith, subst, ◌∙◌}
+use Rattle.std.proofs.Common.{◌≡◌, ℕ, ◌+◌, ◌<◌, ◌≤◌, Bool, true, false, ◌⊎◌, inl, inr, List, [], ◌∷◌, ◌++◌, length, get_or, Some, None, refl, sym, arith, subst, ap, ◌∙◌}
 use Rattle.std.specs.List.{Contains, slice_get}
 use Rattle.std.proofs.lemmas.Bool.{cases_lt}
-use Rattle.std.proofs.lemmas.Option.{slice_get_within}
+use Rattle.std.proofs.lemmas.Option.{slice_get_within, slice_get-get_or}
+use Rattle.std.proofs.lemmas.List.{length-append}
 use Rattle.cs_base.specs.declared.formula.Lit.{Lit}
 use Rattle.cs_base.specs.declared.formula.Clause.{Clause}
 use Rattle.cs_base.specs.Derivations.{negated, IsSet, assumed, unit, MeetsConflict}
 use Rattle.cs_rup.specs.declared.trail.Trail.{Trail}
-use Rattle.cs_rup.specs.Settings.{Setting, is_true, is_false, AllFalse, AllFalseBut, IsSetIn}
+use Rattle.cs_rup.specs.Settings.{Setting, has_value, is_true, is_false, AllFalse, AllFalseBut, IsSetIn, IsUnsetIn}
 use Rattle.cs_rup.specs.Stores.{Lists, AreListed, list_of}
-use Rattle.cs_rup.specs.Trails.{IsSound, set_by, Grows, Waits, AllWait, AllQuiet}
+use Rattle.cs_rup.specs.Trails.{IsSound, set_by, Grows, IsUndone, Waits, AllWait, AllQuiet}
 use Rattle.cs_rup.proofs.Lists.{at_contains}
 use Rattle.cs_rup.proofs.Settings.{negated_twice, not_both, one_or_other}
+use Rattle.cs_rup.proofs.Stores.{at_push, get_push, get_push_before}
 
 pub grows_same : (trail : Trail) → Grows trail trail
-grows_same trail = record { stays = λ t is. is; longer = omega arith; places = λ i t is. is; fresh = λ t is. inl is }
+grows_same trail = record {
+  stays = λ t is. is;
+  longer = omega arith;
+  places = λ i t is. is;
+  fresh = λ t is. inl is;
+  unset = λ i t later found. let within = slice_get_within trail.lits.items i t found in absurd (omega arith);
+}
 
 pub grows_more : (a b c : Trail) → Grows a b → Grows b c → Grows a c
 grows_more a b c first then' = record {
@@ -28,7 +36,73 @@ grows_more a b c first then' = record {
     ]
     | inr put ↦ inr (put.0, (let low = first.longer in let high = put.1 in omega arith), put.2)
   ];
+  unset = λ i t later found u same is. elim (cases_lt i (length b.lits.items)) [
+    | inl early ↦
+        let was = slice_get-get_or b.lits.items i t early in
+        let one : get_or b.lits.items i t ≡ t = let stays = then'.places i (get_or b.lits.items i t) was in cc in
+        first.unset i t later (was ∙ ap Some one) u same is
+    | inr late ↦ then'.unset i t late found u same (first.stays u is)
+  ];
 }
+
+-- a literal whose variable has no value is put on the trail, and it or nothing is set
+pub grows_put : (old new : Trail) (lit : Lit) → set_by old lit.var ≡ None → new.lits.items ≡ old.lits.items ++ lit ∷ []
+    → ((t : Lit) → is_true (set_by old) t ≡ true → is_true (set_by new) t ≡ true)
+    → ((t : Lit) → is_true (set_by new) t ≡ true → (is_true (set_by old) t ≡ true) ⊎ (t ≡ lit)) → Grows old new
+grows_put old new lit none put stays alone = record {
+  stays = stays;
+  longer = omega (arith, ap length put, length-append old.lits.items (lit ∷ []));
+  places = λ i t found. subst (λ items. slice_get items i ≡ Some t) (sym put) (get_push_before old.lits.items lit i t found);
+  fresh = λ t is. elim (alone t is) [
+    | inl before ↦ inl before
+    | inr one ↦ inr (length old.lits.items, omega arith,
+        subst (λ items. slice_get items (length old.lits.items) ≡ Some t) (sym put) (get_push old.lits.items lit ∙ ap Some (sym one)))
+  ];
+  unset = λ i t later found u same is.
+      elim (at_push old.lits.items lit i t (subst (λ items. slice_get items i ≡ Some t) put found)) [
+        | inl before ↦ let within = slice_get_within old.lits.items i t before in absurd (omega arith)
+        | inr last ↦
+            let here : u.var ≡ lit.var = same ∙ ap (λ l. l.var) (sym last.1) in
+            let value : set_by old u.var ≡ None = ap (set_by old) here ∙ none in
+            let no : is_true (set_by old) u ≡ has_value None u.positive = ap (λ v. has_value v u.positive) value in
+            cc
+      ];
+}
+
+pub undone_same : (trail : Trail) → IsUndone trail trail
+undone_same trail = record {
+  places = λ i t found. found;
+  stays = λ t is off. is;
+  alone = λ t is. (is, λ i lit later found same.
+      let within = slice_get_within trail.lits.items i lit found in absurd (omega arith));
+}
+
+-- one literal more is taken from the trail
+pub undone_more : (start old new : Trail) (lit : Lit) → IsUndone start old → old.lits.items ≡ new.lits.items ++ lit ∷ []
+    → IsUnsetIn (set_by old) (set_by new) lit.var → IsUndone start new
+undone_more start old new lit before popped unset =
+    let more : length old.lits.items ≡ length new.lits.items + 1 = ap length popped ∙ length-append new.lits.items (lit ∷ []) in
+    let there : slice_get start.lits.items (length new.lits.items) ≡ Some lit =
+    before.places (length new.lits.items) lit
+    (subst (λ items. slice_get items (length new.lits.items) ≡ Some lit) (sym popped) (get_push new.lits.items lit)) in
+    record {
+      places = λ i t found. before.places i t
+          (subst (λ items. slice_get items i ≡ Some t) (sym popped) (get_push_before new.lits.items lit i t found));
+      stays = λ t is off. unset.stays t (before.stays t is (λ i other later found same. off i other (omega arith) found same))
+          (λ same. off (length new.lits.items) lit (omega arith) there same);
+      alone = λ t is.
+          let was = unset.alone t is in
+          let all = before.alone t was.0 in
+          (all.0, λ i other later found same. elim (cases_lt (length new.lits.items) i) [
+            | inl beyond ↦ all.1 i other (omega arith) found same
+            | inr here ↦
+                let at : i ≡ length new.lits.items = omega arith in
+                let found' : slice_get start.lits.items (length new.lits.items) ≡ Some other =
+                subst (λ j. slice_get start.lits.items j ≡ Some other) at found in
+                let one : other ≡ lit = cc in
+                was.1 (same ∙ ap (λ l. l.var) one)
+          ]);
+    }
 
 -- a clause that waits from a later place on
 pub waits_less : (trail : Trail) (next later : ℕ) (lits : List Lit) → next ≤ later → Waits trail later lits → Waits trail next lits

@@ -78,3 +78,13 @@ pub record IsSetIn (old new : Setting) (lit : Lit) : Type 0 where
   pub stays : (t : Lit) → is_true old t ≡ true → is_true new t ≡ true
   pub is : is_true new lit ≡ true
   pub alone : (t : Lit) → is_true new t ≡ true → (is_true old t ≡ true) ⊎ (t ≡ lit)
+
+-- the variable has no value any more, and nothing else changes
+pub record IsUnsetIn (old new : Setting) (var : ℕ) : Type 0 where
+  pub stays : (t : Lit) → is_true old t ≡ true → (t.var ≡ var → ⊥) → is_true new t ≡ true
+  pub alone : (t : Lit) → is_true new t ≡ true → (is_true old t ≡ true) × (t.var ≡ var → ⊥)
+
+-- the same literals are set true
+pub record IsAlike (one other : Setting) : Type 0 where
+  pub there : (t : Lit) → is_true one t ≡ true → is_true other t ≡ true
+  pub back : (t : Lit) → is_true other t ≡ true → is_true one t ≡ true

@@ -31,6 +31,10 @@ abbrev pub ExplainsAny : List Clause → Trail → Stop → Type 0
 ExplainsAny clauses trail stop =
     (given : List Lit) → IsSound clauses given (set_by trail) → Explains clauses given stop
 
+-- neither the literal nor its negation is set true
+abbrev pub HasNoValue : Setting → Lit → Type 0
+HasNoValue s lit = (t : Lit) → t.var ≡ lit.var → is_true s t ≡ true → ⊥
+
 -- literals are put behind the others, and nothing else is set
 pub record Grows (old new : Trail) : Type 0 where
   pub stays : (t : Lit) → is_true (set_by old) t ≡ true → is_true (set_by new) t ≡ true
@@ -39,6 +43,21 @@ pub record Grows (old new : Trail) : Type 0 where
   pub fresh : (t : Lit) → is_true (set_by new) t ≡ true
       → (is_true (set_by old) t ≡ true)
       ⊎ ((i : ℕ) × (length old.lits.items ≤ i) × (slice_get new.lits.items i ≡ Some t))
+  pub unset : (i : ℕ) (t : Lit) → length old.lits.items ≤ i → slice_get new.lits.items i ≡ Some t
+      → HasNoValue (set_by old) t
+
+-- no literal of the trail from this place on has this one's variable
+abbrev pub IsOffFrom : Trail → ℕ → Lit → Type 0
+IsOffFrom trail place t =
+    (i : ℕ) (lit : Lit) → place ≤ i → slice_get trail.lits.items i ≡ Some lit → t.var ≡ lit.var → ⊥
+
+-- the last literals are taken from the trail, their variables have no value any more, and nothing else changes
+pub record IsUndone (old new : Trail) : Type 0 where
+  pub places : (i : ℕ) (t : Lit) → slice_get new.lits.items i ≡ Some t → slice_get old.lits.items i ≡ Some t
+  pub stays : (t : Lit) → is_true (set_by old) t ≡ true → IsOffFrom old (length new.lits.items) t
+      → is_true (set_by new) t ≡ true
+  pub alone : (t : Lit) → is_true (set_by new) t ≡ true
+      → (is_true (set_by old) t ≡ true) × IsOffFrom old (length new.lits.items) t
 
 -- a literal of the clause was set false, at place `next` of the trail or later
 pub record IsAwaiting (trail : Trail) (next : ℕ) (lits : List Lit) : Type 0 where
@@ -65,8 +84,3 @@ AllQuiet s clauses = (i : ℕ) (clause : Clause) → slice_get clauses i ≡ Som
 abbrev pub QuietBelow : Setting → List Clause → ℕ → Type 0
 QuietBelow s clauses seen =
     (i : ℕ) (clause : Clause) → i < seen → slice_get clauses i ≡ Some clause → IsQuiet s clause.lits
-
--- each clause from this place on asks for nothing
-abbrev pub QuietFrom : Setting → List Clause → ℕ → Type 0
-QuietFrom s clauses seen =
-    (i : ℕ) (clause : Clause) → seen ≤ i → slice_get clauses i ≡ Some clause → IsQuiet s clause.lits

@@ -6,7 +6,7 @@ ghost use Rattle.cs_base.specs.declared.formula.Clause.{Clause as Lits};
 ghost use Rattle.cs_base.specs.Derivations.{negated as negated_lit};
 ghost use Rattle.cs_rup.specs.Settings.{is_false, AllFalse, IsQuiet, IsSetIn};
 ghost use Rattle.cs_rup.specs.Stores.{AreListed};
-ghost use Rattle.cs_rup.specs.Trails.{IsSound, Explains, StaysSound, ExplainsAny, set_by, Grows, Waits, AllWait, AllQuiet};
+ghost use Rattle.cs_rup.specs.Trails.{IsSound, Explains, StaysSound, ExplainsAny, set_by, Grows, IsUndone, Waits, AllWait, AllQuiet};
 
 use crate::error::Stop;
 use crate::status::{Status, status_of};
@@ -22,16 +22,6 @@ pub struct Trail {
     pub lits: Vec<Lit>,
 }
 
-/// The other literal of the same variable.
-pub fn negated(lit: Lit) -> Lit
-    ensures { result ≡ negated_lit lit }
-{
-    Lit {
-        var: lit.var,
-        positive: !lit.positive,
-    }
-}
-
 impl Trail {
     /// Nothing is set beyond these values.
     pub fn new(alloc: Global, values: Values) -> Trail
@@ -44,20 +34,38 @@ impl Trail {
         }
     }
 
+    /// What is set stays so from now on.
+    pub fn keep(&mut self)
+        ensures values { self.new.values ≡ self.old.values }
+        ensures lits { self.new.lits.items ≡ [] }
+    {
+        self.lits.clear();
+    }
+
+    /// Takes back all that was set since.
+    pub fn undo(&mut self)
+        ensures undone { IsUndone self.old self.new }
+        ensures empty { self.new.lits.items ≡ [] }
+    {
+        while let Some(lit) = self.lits.pop() {
+            self.values.unset(lit.var);
+        }
+    }
+
     // Sets a literal true whose variable has no value yet.
     fn set(&mut self, lit: Lit) -> Result<(), AllocError>
         requires { set_by self.old lit.var ≡ None }
         ensures set { OnOk result (IsSetIn (set_by self.old) (set_by self.new) lit) }
-        ensures grows { OnOk result (Grows self.old self.new) }
+        ensures grows { Grows self.old self.new }
     {
-        self.values.set(lit)?;
         self.lits.push(lit)?;
+        self.values.set(lit)?;
         Ok(())
     }
 
     // Looks at a clause: one that is unit sets its literal, one that is falsified is a conflict.
     fn examine(&mut self, clause: &Clause) -> Result<(), Stop>
-        ensures grows { OnOk result (Grows self.old self.new) }
+        ensures grows { Grows self.old self.new }
         ensures quiet { OnOk result (IsQuiet (set_by self.new) clause.now.lits) }
         ensures sound { OnOk result ((clauses : List Lits) → Contains clauses clause.now
             → StaysSound clauses self.old self.new) }
@@ -76,7 +84,7 @@ impl Trail {
 
     // Looks at the clause of a place, if there is one.
     fn look_at(&mut self, store: &Store, place: usize) -> Result<(), Stop>
-        ensures grows { OnOk result (Grows self.old self.new) }
+        ensures grows { Grows self.old self.new }
         ensures quiet { OnOk result ((clause : Lits) → slice_get store.now.clauses place ≡ Some clause
             → IsQuiet (set_by self.new) clause.lits) }
         ensures sound { OnOk result (StaysSound store.now.clauses self.old self.new) }
@@ -90,7 +98,7 @@ impl Trail {
 
     // Looks at the clauses of these places.
     fn visit(&mut self, store: &Store, places: &[usize]) -> Result<(), Stop>
-        ensures grows { OnOk result (Grows self.old self.new) }
+        ensures grows { Grows self.old self.new }
         ensures waits { OnOk result ((place : ℕ) (clause : Lits) → Contains places.now place
             → slice_get store.now.clauses place ≡ Some clause
             → Waits self.new (length self.old.lits.items) clause.lits) }
@@ -105,7 +113,7 @@ impl Trail {
 
     // Sets a literal false; one that is true already is a conflict.
     fn set_false(&mut self, lit: Lit) -> Result<(), Stop>
-        ensures grows { OnOk result (Grows self.old self.new) }
+        ensures grows { Grows self.old self.new }
         ensures is_false { OnOk result (is_false (set_by self.new) lit ≡ true) }
         ensures sound { OnOk result ((clauses : List Lits) (given : List Literal)
             → Contains given (negated_lit lit) → IsSound clauses given (set_by self.old)
@@ -120,13 +128,13 @@ impl Trail {
         if self.values.is_false(lit) {
             return Ok(());
         }
-        self.set(negated(lit))?;
+        self.set(lit.negated())?;
         Ok(())
     }
 
     /// Sets the literals of a line false.
     pub fn refute(&mut self, line: &[Lit]) -> Result<(), Stop>
-        ensures grows { OnOk result (Grows self.old self.new) }
+        ensures grows { Grows self.old self.new }
         ensures given { OnOk result (AllFalse (set_by self.new) line.now) }
         ensures sound { OnOk result ((clauses : List Lits)
             → IsSound clauses (map negated_lit line.now) (set_by self.old)
@@ -143,7 +151,7 @@ impl Trail {
 
     /// Looks at the clauses from this place on.
     pub fn examine_from(&mut self, store: &Store, first: usize) -> Result<(), Stop>
-        ensures grows { OnOk result (Grows self.old self.new) }
+        ensures grows { Grows self.old self.new }
         ensures waits { OnOk result ((place : ℕ) (clause : Lits) → first ≤ place
             → slice_get store.now.clauses place ≡ Some clause → Waits self.new 0 clause.lits) }
         ensures sound { OnOk result (StaysSound store.now.clauses self.old self.new) }
@@ -159,7 +167,7 @@ impl Trail {
     pub fn propagate(&mut self, store: &Store) -> Result<(), Stop>
         requires listed { AreListed store.now.clauses store.now.lists.items }
         requires waits { AllWait self.old 0 store.now.clauses }
-        ensures grows { OnOk result (Grows self.old self.new) }
+        ensures grows { Grows self.old self.new }
         ensures quiet { OnOk result (AllQuiet (set_by self.new) store.now.clauses) }
         ensures sound { OnOk result (StaysSound store.now.clauses self.old self.new) }
         ensures err { IfErr result (ExplainsAny store.now.clauses self.old) }
@@ -167,7 +175,7 @@ impl Trail {
         let mut next = 0;
         while next < self.lits.len() {
             let lit = self.lits[next];
-            self.visit(store, store.list_of(negated(lit)))?;
+            self.visit(store, store.list_of(lit.negated()))?;
             next += 1;
         }
         Ok(())

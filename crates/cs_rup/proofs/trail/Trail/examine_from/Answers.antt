@@ -8,6 +8,10 @@ use Rattle.std.proofs.lemmas.Option.{slice_get_within}
 use Rattle.std.proofs.lemmas.Result.{err_from_is_err_and}
 use Rattle.cs_rup.proofs.trail.Trail.examine_from.Goals as goal
 
+pub returns-in_err-look_at-clause-grows : goal.returns-in_err-look_at-clause-grows
+returns-in_err-look_at-clause-grows c =
+    grows_more c.args.self.now c.loop-place.self c.look_at.new.self c.loop-place.invariant.grows c.look_at.ensures.grows
+
 pub returns-in_err-look_at-clause-err : goal.returns-in_err-look_at-clause-err
 returns-in_err-look_at-clause-err c =
     let p = err_from_is_err_and c.from_residual.result c.from_residual.ensures.1 in
@@ -18,7 +22,7 @@ loop-place-preserved c =
     let before = c.args.self.now in
     let old = c.loop-place.self in
     let new = c.look_at.new.self in
-    let more = c.in_ok-look_at.ensures.grows in
+    let more = c.look_at.ensures.grows in
     let i = c.loop-place.invariant in
     record {
       grows = grows_more before old new i.grows more;

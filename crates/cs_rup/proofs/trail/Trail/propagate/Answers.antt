@@ -9,6 +9,10 @@ use Rattle.std.proofs.lemmas.Option.{slice_get_read}
 use Rattle.std.proofs.lemmas.Result.{err_from_is_err_and}
 use Rattle.cs_rup.proofs.trail.Trail.propagate.Goals as goal
 
+pub returns-in_err-visit-clause-grows : goal.returns-in_err-visit-clause-grows
+returns-in_err-visit-clause-grows c =
+    grows_more c.args.self.now c.loop-next.self c.visit.new.self c.loop-next.invariant.grows c.visit.ensures.grows
+
 pub returns-in_err-visit-clause-err : goal.returns-in_err-visit-clause-err
 returns-in_err-visit-clause-err c =
     let p = err_from_is_err_and c.from_residual.result c.from_residual.ensures.1 in
@@ -19,7 +23,7 @@ loop-next-preserved c =
     let before = c.args.self.now in
     let old = c.loop-next.self in
     let new = c.visit.new.self in
-    let more = c.in_ok-visit.ensures.grows in
+    let more = c.visit.ensures.grows in
     let i = c.loop-next.invariant in
     let lit = c.index-lit.result.now in
     let within : c.loop-next.next < length old.lits.items = search rules in
