@@ -2,8 +2,8 @@
 ghost use Rattle.std.specs.Prelude.{◌≡◌, ◌++◌, ◌<◌, ◌≤◌, ◌^◌, ◌↔◌, [], ◌∷◌, map, true, if◌then◌else◌, IsTrue, OnOk, OnErr, IfOk, IfErr, length};
 ghost use Rattle.cs_base.specs.Derivations.{negated, IsRup};
 ghost use Rattle.cs_rup.specs.Settings.{AllFalse};
-ghost use Rattle.cs_rup.specs.Stores.{AreListed};
-ghost use Rattle.cs_rup.specs.Trails.{set_by, Grows, IsSound, Explains, AllQuiet, QuietBelow};
+ghost use Rattle.cs_rup.specs.Stores.{AreListed, IsRewatched, AllWatched, WatchedBelow};
+ghost use Rattle.cs_rup.specs.Trails.{set_by, Grows, IsSound, Explains};
 ghost use Rattle.cs_rup.specs.Checkers.{Answers};
 
 use crate::error::Stop;
@@ -22,7 +22,7 @@ pub struct Checker {
     trail: Trail,
     /// whether it meets a conflict there, so that all lines are RUP
     refuted: bool,
-    /// of so many clauses, each asks for nothing there
+    /// so many clauses are watched by literals that are not false there, or have a true one
     seen: usize,
 }
 
@@ -36,7 +36,7 @@ impl Model for Checker {
     ghost view = { λ checker. checker.store.clauses };
 
     ghost invariant = { λ checker.
-        IsKept checker.store.clauses checker.store.lists.items checker.refuted checker.trail checker.seen };
+        IsKept checker.store checker.refuted checker.trail checker.seen };
 }
 
 // The number of literals in a formula's clauses, or of its variables where there are fewer, and 1 more.
@@ -51,22 +51,24 @@ fn size_of(f: &Formula) -> usize
     literals.min(f.vars as usize) + 1
 }
 
-// Propagates from a line's literals set false, where the clauses before `seen` ask for nothing.
+// Propagates from a line's literals set false, where the clauses before `seen` are watched.
 fn propagate_from(
     trail: &mut Trail,
-    store: &Store,
+    store: &mut Store,
     seen: usize,
     line: &[Lit],
 ) -> Result<(), Stop>
-    requires listed { AreListed store.now.clauses store.now.lists.items }
-    requires quiet { QuietBelow (set_by trail.old) store.now.clauses seen }
+    requires listed { AreListed store.old }
+    requires watched { WatchedBelow (set_by trail.old) store.old seen }
+    ensures listed { AreListed store.new }
+    ensures rewatched { IsRewatched (set_by trail.old) store.old store.new }
     ensures grows { Grows trail.old trail.new }
-    ensures quiet { OnOk result (AllQuiet (set_by trail.new) store.now.clauses) }
+    ensures watched { OnOk result (AllWatched (set_by trail.new) store.new) }
     ensures given { OnOk result (AllFalse (set_by trail.new) line.now) }
-    ensures sound { OnOk result (IsSound store.now.clauses [] (set_by trail.old)
-        → IsSound store.now.clauses (map negated line.now) (set_by trail.new)) }
-    ensures err { IfErr result (λ stop. IsSound store.now.clauses [] (set_by trail.old)
-        → Explains store.now.clauses (map negated line.now) stop) }
+    ensures sound { OnOk result (IsSound store.old.clauses [] (set_by trail.old)
+        → IsSound store.old.clauses (map negated line.now) (set_by trail.new)) }
+    ensures err { IfErr result (λ stop. IsSound store.old.clauses [] (set_by trail.old)
+        → Explains store.old.clauses (map negated line.now) stop) }
 {
     trail.refute(line)?;
     trail.examine_from(store, seen)?;
@@ -121,7 +123,7 @@ impl Checker {
         if self.refuted {
             return Ok(());
         }
-        match propagate_from(&mut self.trail, &self.store, self.seen, &[]) {
+        match propagate_from(&mut self.trail, &mut self.store, self.seen, &[]) {
             Ok(()) => {
                 self.trail.keep();
                 self.seen = self.store.clauses.len();
@@ -147,7 +149,7 @@ impl Checker {
         if self.refuted {
             return Ok(true);
         }
-        let end = propagate_from(&mut self.trail, &self.store, self.seen, line.lits.as_slice());
+        let end = propagate_from(&mut self.trail, &mut self.store, self.seen, line.lits.as_slice());
         self.trail.undo();
         meets_conflict(end)
     }
