@@ -191,9 +191,10 @@ module _ (old new : Store) (index : ℕ) (kept : List ℕ) (listed : AreListed o
       enough = let enough = listed.enough in omega (arith, ap length same.clauses, ap length same.watches);
       each = λ place watch found.
           let at = subst (λ ws. slice_get ws place ≡ Some watch) same.watches found in
-          let has = listed.each place watch at in
-          (swept_one place watch watch.one.lit at (λ here. inl here) has.0,
-            swept_one place watch watch.other.lit at (λ here. inr here) has.1);
+          let has = listed.each place watch at in (
+            swept_one place watch watch.one.lit at (λ here. inl here) has.0,
+            swept_one place watch watch.other.lit at (λ here. inr here) has.1,
+          );
     }
 
 -- ---- what is watched

@@ -57,8 +57,11 @@ grows_put old new lit none put stays alone = record {
   places = λ i t found. subst (λ items. slice_get items i ≡ Some t) (sym put) (get_push_before old.lits.items lit i t found);
   fresh = λ t is. elim (alone t is) [
     | inl before ↦ inl before
-    | inr one ↦ inr (length old.lits.items, omega arith,
-        subst (λ items. slice_get items (length old.lits.items) ≡ Some t) (sym put) (get_push old.lits.items lit ∙ ap Some (sym one)))
+    | inr one ↦ inr (
+      length old.lits.items,
+      omega arith,
+      subst (λ items. slice_get items (length old.lits.items) ≡ Some t) (sym put) (get_push old.lits.items lit ∙ ap Some (sym one)),
+    )
   ];
   unset = λ i t later found u same is.
       elim (at_push old.lits.items lit i t (subst (λ items. slice_get items i ≡ Some t) put found)) [
@@ -75,8 +78,11 @@ pub undone_same : (trail : Trail) → IsUndone trail trail
 undone_same trail = record {
   places = λ i t found. found;
   stays = λ t is off. is;
-  alone = λ t is. (is, λ i lit later found same.
-      let within = slice_get_within trail.lits.items i lit found in absurd (omega arith));
+  alone = λ t is. (
+    is,
+    λ i lit later found same.
+        let within = slice_get_within trail.lits.items i lit found in absurd (omega arith),
+  );
 }
 
 -- one literal more is taken from the trail
@@ -94,16 +100,18 @@ undone_more start old new lit before popped unset =
           (λ same. off (length new.lits.items) lit (omega arith) there same);
       alone = λ t is.
           let was = unset.alone t is in
-          let all = before.alone t was.0 in
-          (all.0, λ i other later found same. elim (cases_lt (length new.lits.items) i) [
-            | inl beyond ↦ all.1 i other (omega arith) found same
-            | inr here ↦
-                let at : i ≡ length new.lits.items = omega arith in
-                let found' : slice_get start.lits.items (length new.lits.items) ≡ Some other =
-                subst (λ j. slice_get start.lits.items j ≡ Some other) at found in
-                let one : other ≡ lit = cc in
-                was.1 (same ∙ ap (λ l. l.var) one)
-          ]);
+          let all = before.alone t was.0 in (
+            all.0,
+            λ i other later found same. elim (cases_lt (length new.lits.items) i) [
+              | inl beyond ↦ all.1 i other (omega arith) found same
+              | inr here ↦
+                  let at : i ≡ length new.lits.items = omega arith in
+                  let found' : slice_get start.lits.items (length new.lits.items) ≡ Some other =
+                  subst (λ j. slice_get start.lits.items j ≡ Some other) at found in
+                  let one : other ≡ lit = cc in
+                  was.1 (same ∙ ap (λ l. l.var) one)
+            ],
+          );
     }
 
 -- ---- clauses that wait

@@ -149,7 +149,12 @@ impl Checker {
         if self.refuted {
             return Ok(true);
         }
-        let end = propagate_from(&mut self.trail, &mut self.store, self.seen, line.lits.as_slice());
+        let end = propagate_from(
+            &mut self.trail,
+            &mut self.store,
+            self.seen,
+            line.lits.as_slice(),
+        );
         self.trail.undo();
         meets_conflict(end)
     }

@@ -12,9 +12,10 @@ use Rattle.cs_rup.proofs.trail.Trail.look_at.Goals as goal
 
 pub follow-requires-clause-asked : goal.follow-requires-clause-asked
 follow-requires-clause-asked c =
-    let s = set_by c.args.self.now in
-    (c.in-Some.clause.now.lits,
-      subst (λ lits. Asks s lits c.status_of-status.result) c.as_slice-2.ensures c.status_of-status.ensures)
+    let s = set_by c.args.self.now in (
+      c.in-Some.clause.now.lits,
+      subst (λ lits. Asks s lits c.status_of-status.result) c.as_slice-2.ensures c.status_of-status.ensures,
+    )
 
 pub returns-clause-rewatched : goal.returns-clause-rewatched
 returns-clause-rewatched c =
@@ -41,8 +42,8 @@ returns-clause-watched c =
     ((other : Lits) → slice_get c.args.store.now.clauses c.args.place ≡ Some other
     → IsWatched t c.follow.new.store c.args.place other.lits)
     (λ watched other at.
-        let one : clause ≡ other = cc in
-        subst (λ (l : Lits). IsWatched t c.follow.new.store c.args.place l.lits) one (watched clause.lits asks))
+    let one : clause ≡ other = cc in
+    subst (λ (l : Lits). IsWatched t c.follow.new.store c.args.place l.lits) one (watched clause.lits asks))
     c.follow.ensures.watched
 
 pub returns-clause-sound : goal.returns-clause-sound

@@ -31,6 +31,6 @@ returns-clause-waits c =
     ((place : ℕ) (clause : Lits) → Contains list place → slice_get all place ≡ Some clause
     → Waits new next c.sweep.new.self place clause.lits)
     (λ waits place clause has found.
-        waits_same new next c.look_at_all-end.new.store c.sweep.new.self place clause.lits c.sweep.ensures.same
-        (waits place clause (subst (λ l. Contains l place) (sym places) has) found))
+    waits_same new next c.look_at_all-end.new.store c.sweep.new.self place clause.lits c.sweep.ensures.same
+    (waits place clause (subst (λ l. Contains l place) (sym places) has) found))
     c.look_at_all-end.ensures.waits
