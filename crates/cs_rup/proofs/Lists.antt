@@ -1,6 +1,6 @@
 -- What a list contains, and what a search in it tells.
-use Rattle.std.proofs.Common.{◌≡◌, ℕ, ◌+◌, ◌<◌, map, get_or, Bool, true, false, ◌||◌, cond, ◌⊎◌, inl, inr, List, [], ◌∷◌, length, Some, None, refl, sym, arith, subst, ap, ◌∙◌}
-use Rattle.std.specs.List.{Contains, find, list_any, slice_get}
+use Rattle.std.proofs.Common.{◌≡◌, ℕ, ◌+◌, ◌<◌, map, get_or, Bool, true, false, ◌||◌, ◌⊎◌, inl, inr, List, [], ◌∷◌, length, Some, Result, Ok, Err, OnOk, IfErr, refl, sym, arith, subst, ap, ◌∙◌}
+use Rattle.std.specs.List.{Contains, list_any, slice_get}
 use Rattle.std.proofs.lemmas.Bool.{cases_lt}
 use Rattle.std.proofs.lemmas.Option.{slice_get_within, get_or_from_slice_get, slice_get-get_or, slice_get_read}
 use Rattle.std.proofs.lemmas.List.Elements.{Contains-append_right, Contains-append_cases, Contains-push_cases}
@@ -23,33 +23,6 @@ contains_cases y x xs has =
       ]
       | inr rest ↦ inr rest
     ]
-
-pub find_none : {X : Type 0} (test : X → Bool) (xs : List X) → find test xs ≡ None → (x : X) → Contains xs x → test x ≡ false
-find_none test [] none x has = absurd (not_in_empty x has)
-find_none test (y ∷ ys) none x has =
-    let cases : (b : Bool) → test y ≡ b → cond b (Some y) (find test ys) ≡ None → test x ≡ false =
-    λ b. elim b as (λ b. test y ≡ b → cond b (Some y) (find test ys) ≡ None → test x ≡ false) [
-      | true ↦ λ is found. cc
-      | false ↦ λ is found. elim (contains_cases y x ys has) [
-        | inl here ↦ ap test (sym here) ∙ is
-        | inr there ↦ find_none test ys found x there
-      ]
-    ] in
-    cases (test y) refl none
-
-pub find_some : {X : Type 0} (test : X → Bool) (xs : List X) (x : X) → find test xs ≡ Some x → Contains xs x × (test x ≡ true)
-find_some test [] x found = cc
-find_some test (y ∷ ys) x found =
-    let cases : (b : Bool) → test y ≡ b → cond b (Some y) (find test ys) ≡ Some x → Contains (y ∷ ys) x × (test x ≡ true) =
-    λ b. elim b as (λ b. test y ≡ b → cond b (Some y) (find test ys) ≡ Some x → Contains (y ∷ ys) x × (test x ≡ true)) [
-      | true ↦ λ is found.
-          let same : y ≡ x = cc in
-          (subst (λ z. Contains (y ∷ ys) z) same (contains_here y ys), ap test (sym same) ∙ is)
-      | false ↦ λ is found.
-          let rest = find_some test ys x found in
-          (contains_there y x ys rest.0, rest.1)
-    ] in
-    cases (test y) refl found
 
 pub any_false : {X : Type 0} (test : X → Bool) (xs : List X) → list_any test xs ≡ false → (x : X) → Contains xs x → test x ≡ false
 any_false test [] none x has = absurd (not_in_empty x has)
@@ -78,6 +51,11 @@ any_true test (y ∷ ys) holds =
 
 pub contains_at : {X : Type 0} (xs : List X) (i : ℕ) (x : X) → slice_get xs i ≡ Some x → Contains xs x
 contains_at xs i x found = (i, slice_get_within xs i x found, get_or_from_slice_get xs i x x found)
+
+-- what was read at a place stands there
+pub read_at : {X : Type 0} (xs ys : List X) (i : ℕ) (x : X) → xs ≡ ys → i < length xs → x ≡ get_or xs i x → slice_get ys i ≡ Some x
+read_at xs ys i x same within is =
+    subst (λ l. slice_get l i ≡ Some x) same (slice_get_read xs (length xs) i x refl within is)
 
 pub at_contains : {X : Type 0} (xs : List X) (x : X) → Contains xs x → (i : ℕ) × (slice_get xs i ≡ Some x)
 at_contains xs x (i, within, is) = (i, slice_get-get_or xs i x within ∙ ap Some is)
@@ -109,3 +87,12 @@ places_more P xs i x is within before here k y below found =
           let same_item : x ≡ y = let found' = subst (λ j. slice_get xs j ≡ Some y) (sym same) found in cc in
           subst (λ j. P j y) same (subst (λ z. P i z) same_item here)
     ]
+
+-- a fact of a result follows from another
+pub on_ok : {T E : Type 0} (r : Result T E) (P Q : Type 0) → (P → Q) → OnOk r P → OnOk r Q
+on_ok (Ok _) P Q step holds = step holds
+on_ok (Err _) P Q step holds = tt
+
+pub if_err : {T E : Type 0} (r : Result T E) (P Q : E → Type 0) → ((e : E) → P e → Q e) → IfErr r P → IfErr r Q
+if_err (Ok _) P Q step holds = tt
+if_err (Err e) P Q step holds = step e holds

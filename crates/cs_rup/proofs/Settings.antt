@@ -1,11 +1,11 @@
 -- Literals under a setting.
-use Rattle.std.proofs.Common.{◌≡◌, ℕ, Bool, true, false, not, ◌&&◌, ◌==◌, if◌then◌else◌, ◌⊎◌, inl, inr, List, Option, Some, None, refl, subst, eq-eqb}
-use Rattle.std.specs.List.{Contains, find, list_any}
+use Rattle.std.proofs.Common.{◌≡◌, ℕ, Bool, true, false, not, ◌&&◌, ◌==◌, if◌then◌else◌, ◌⊎◌, inl, inr, List, Option, Some, None, refl, sym, subst, eq-eqb}
+use Rattle.std.specs.List.{Contains}
 use Rattle.std.proofs.lemmas.Bool.{eqb-true}
 use Rattle.cs_base.specs.declared.formula.Lit.{Lit}
+use Rattle.cs_rup.specs.declared.watch.Watch.{Watch}
 use Rattle.cs_base.specs.Derivations.{negated}
-use Rattle.cs_rup.specs.Settings.{Setting, has_value, is_true, is_false, is_same, is_other, AllFalse, AllFalseBut, IsQuiet}
-use Rattle.cs_rup.proofs.Lists.{find_none, find_some, any_false, any_true}
+use Rattle.cs_rup.specs.Settings.{Setting, has_value, is_true, is_false, is_same, is_sought, AllFalse, AllFalseBut, HasPair, IsOpen}
 
 -- a negation's negation
 pub negated_twice : (lit : Lit) → negated (negated lit) ≡ lit
@@ -90,44 +90,38 @@ not_false true is = cc
 not_false false is = refl
 
 -- no literal that isn't false
-pub all_false : (s : Setting) (lits : List Lit) → find (λ lit. not (is_false s lit)) lits ≡ None → AllFalse s lits
-all_false s lits none lit has = not_true (is_false s lit) (find_none (λ lit. not (is_false s lit)) lits none lit has)
+pub all_false : (s : Setting) (lits : List Lit) → ((lit : Lit) → Contains lits lit → is_sought s None lit ≡ false) → AllFalse s lits
+all_false s lits none lit has = not_true (is_false s lit) (none lit has)
 
--- the first that isn't false is true
-pub quiet_by_true : (s : Setting) (lits : List Lit) (first : Lit) → find (λ lit. not (is_false s lit)) lits ≡ Some first → is_true s first ≡ true → IsQuiet s lits
-quiet_by_true s lits first found holds =
-    inl (record { lit = first; among = (find_some (λ lit. not (is_false s lit)) lits first found).0; is = holds })
-
--- another one isn't false
-pub quiet_by_two : (s : Setting) (lits : List Lit) (first : Lit) → find (λ lit. not (is_false s lit)) lits ≡ Some first → list_any (is_other s first) lits ≡ true → IsQuiet s lits
-quiet_by_two s lits first found holds =
-    let one = find_some (λ lit. not (is_false s lit)) lits first found in
-    let other = any_true (is_other s first) lits holds in
-    let both = both_true (not (is_same other.0 first)) (not (is_false s other.0)) other.2 in
-    inr (record {
-      one = other.0;
-      other = first;
-      one_among = other.1;
-      other_among = one.0;
-      differ = not_same other.0 first (not_false _ both.0);
-      one_open = λ fails. let open' : is_false s other.0 ≡ false = not_false _ both.1 in cc;
-      other_open = λ fails. let open' : is_false s first ≡ false = not_false _ one.1 in cc;
-    })
+-- one that isn't false, and another one
+pub pair_open : (s : Setting) (lits : List Lit) (watch : Watch) → Contains lits watch.one.lit → Contains lits watch.other.lit
+    → is_sought s None watch.one.lit ≡ true → is_sought s (Some watch.one.lit) watch.other.lit ≡ true
+    → HasPair (IsOpen s) watch lits
+pair_open s lits watch one_among other_among one other =
+    let both = both_true (not (is_same watch.other.lit watch.one.lit)) (not (is_false s watch.other.lit)) other in
+    record {
+      one_among = one_among;
+      other_among = other_among;
+      differ = λ same. not_same watch.other.lit watch.one.lit (not_false _ both.0) (sym same);
+      one_free = λ fails. let open' : is_false s watch.one.lit ≡ false = not_false _ one in cc;
+      other_free = λ fails. let open' : is_false s watch.other.lit ≡ false = not_false _ both.1 in cc;
+    }
 
 -- no other one isn't false
-pub unit_by_first : (s : Setting) (lits : List Lit) (first : Lit) → find (λ lit. not (is_false s lit)) lits ≡ Some first → is_true s first ≡ false → list_any (is_other s first) lits ≡ false → Contains lits first × (s first.var ≡ None) × AllFalseBut s lits first
-unit_by_first s lits first found fails alone =
-    let one = find_some (λ lit. not (is_false s lit)) lits first found in (
-      one.0,
-      unset s first fails (not_false _ one.1),
-      λ other has differ.
-          let cases : (a b : Bool) → is_same other first ≡ a → is_false s other ≡ b → (not a && not b) ≡ false → is_false s other ≡ true =
-          λ a b. elim b as (λ b. is_same other first ≡ a → is_false s other ≡ b → (not a && not b) ≡ false → is_false s other ≡ true) [
-            | true ↦ λ same false' none. false'
-            | false ↦ elim a as (λ a. is_same other first ≡ a → is_false s other ≡ false → (not a && true) ≡ false → is_false s other ≡ true) [
-              | true ↦ λ same false' none. absurd (differ (same_is other first same))
-              | false ↦ λ same false' none. cc
-            ]
-          ] in
-          cases (is_same other first) (is_false s other) refl refl (any_false (is_other s first) lits alone other has),
-    )
+pub unit_by_first : (s : Setting) (lits : List Lit) (first : Lit) → Contains lits first → is_sought s None first ≡ true
+    → is_true s first ≡ false → ((lit : Lit) → Contains lits lit → is_sought s (Some first) lit ≡ false)
+    → Contains lits first × (s first.var ≡ None) × AllFalseBut s lits first
+unit_by_first s lits first among one fails alone = (
+  among,
+  unset s first fails (not_false _ one),
+  λ other has differ.
+      let cases : (a b : Bool) → is_same other first ≡ a → is_false s other ≡ b → (not a && not b) ≡ false → is_false s other ≡ true =
+      λ a b. elim b as (λ b. is_same other first ≡ a → is_false s other ≡ b → (not a && not b) ≡ false → is_false s other ≡ true) [
+        | true ↦ λ same false' none. false'
+        | false ↦ elim a as (λ a. is_same other first ≡ a → is_false s other ≡ false → (not a && true) ≡ false → is_false s other ≡ true) [
+          | true ↦ λ same false' none. absurd (differ (same_is other first same))
+          | false ↦ λ same false' none. cc
+        ]
+      ] in
+      cases (is_same other first) (is_false s other) refl refl (alone other has),
+)

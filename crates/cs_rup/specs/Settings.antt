@@ -6,7 +6,8 @@ use Rattle.cs_base.specs.declared.formula.Lit.{Lit}
 use Rattle.cs_base.specs.Derivations.{negated}
 use Rattle.cs_rup.specs.declared.values.Values.{Values}
 use Rattle.cs_rup.specs.declared.status.Status.{Status}
-use Rattle.cs_rup.specs.declared.status.Status.TheVariants.{Quiet, Unit as UnitClause, Falsified}
+use Rattle.cs_rup.specs.declared.status.Status.TheVariants.{Satisfied, Open, Unit as UnitClause, Falsified}
+use Rattle.cs_rup.specs.declared.watch.Watch.{Watch}
 
 -- the values of some variables
 abbrev pub Setting : Type 0
@@ -39,6 +40,11 @@ is_same a b = (a.var == b.var) && (if a.positive then b.positive else not b.posi
 abbrev pub is_other : Setting → Lit → Lit → Bool
 is_other s first lit = not (is_same lit first) && not (is_false s lit)
 
+-- a literal is not false, and is not the one to skip
+abbrev pub is_sought : Setting → Option Lit → Lit → Bool
+is_sought s None lit = not (is_false s lit)
+is_sought s (Some first) lit = is_other s first lit
+
 -- all literals of a clause but this one are false
 abbrev pub AllFalseBut : Setting → List Lit → Lit → Type 0
 AllFalseBut s lits lit = (other : Lit) → Contains lits other → (other ≡ lit → ⊥) → is_false s other ≡ true
@@ -53,23 +59,22 @@ pub record HasTrue (s : Setting) (lits : List Lit) : Type 0 where
   pub among : Contains lits lit
   pub is : is_true s lit ≡ true
 
--- two different literals of the clause are not false
-pub record HasTwoOpen (s : Setting) (lits : List Lit) : Type 0 where
-  pub one : Lit
-  pub other : Lit
-  pub one_among : Contains lits one
-  pub other_among : Contains lits other
-  pub differ : one ≡ other → ⊥
-  pub one_open : is_false s one ≡ true → ⊥
-  pub other_open : is_false s other ≡ true → ⊥
+-- the literal is not set false
+abbrev pub IsOpen : Setting → Lit → Type 0
+IsOpen s lit = is_false s lit ≡ true → ⊥
 
--- a clause asks for nothing: it is neither unit nor falsified
-abbrev pub IsQuiet : Setting → List Lit → Type 0
-IsQuiet s lits = HasTrue s lits ⊎ HasTwoOpen s lits
+-- two different literals of the clause are free in some sense
+pub record HasPair (IsFree : Lit → Type 0) (watch : Watch) (lits : List Lit) : Type 0 where
+  pub one_among : Contains lits watch.one.lit
+  pub other_among : Contains lits watch.other.lit
+  pub differ : watch.one.lit ≡ watch.other.lit → ⊥
+  pub one_free : IsFree watch.one.lit
+  pub other_free : IsFree watch.other.lit
 
 -- what a clause asks for: nothing, that its one literal that isn't false is set, or a conflict
 abbrev pub Asks : Setting → List Lit → Status → Type 0
-Asks s lits Quiet = IsQuiet s lits
+Asks s lits Satisfied = HasTrue s lits
+Asks s lits (Open watch) = HasPair (IsOpen s) watch lits
 Asks s lits (UnitClause lit) = Contains lits lit × (s lit.var ≡ None) × AllFalseBut s lits lit
 Asks s lits Falsified = AllFalse s lits
 
@@ -78,3 +83,13 @@ pub record IsSetIn (old new : Setting) (lit : Lit) : Type 0 where
   pub stays : (t : Lit) → is_true old t ≡ true → is_true new t ≡ true
   pub is : is_true new lit ≡ true
   pub alone : (t : Lit) → is_true new t ≡ true → (is_true old t ≡ true) ⊎ (t ≡ lit)
+
+-- the variable has no value any more, and nothing else changes
+pub record IsUnsetIn (old new : Setting) (var : ℕ) : Type 0 where
+  pub stays : (t : Lit) → is_true old t ≡ true → (t.var ≡ var → ⊥) → is_true new t ≡ true
+  pub alone : (t : Lit) → is_true new t ≡ true → (is_true old t ≡ true) × (t.var ≡ var → ⊥)
+
+-- the same literals are set true
+pub record IsAlike (one other : Setting) : Type 0 where
+  pub there : (t : Lit) → is_true one t ≡ true → is_true other t ≡ true
+  pub back : (t : Lit) → is_true other t ≡ true → is_true one t ≡ true

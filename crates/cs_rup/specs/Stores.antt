@@ -1,7 +1,10 @@
--- Lists of where each literal occurs.
-use Rattle.std.specs.Prelude.{◌≡◌, ℕ, ◌+◌, ◌*◌, ◌%◌, ◌<◌, if◌then◌else◌, List, [], Some, get_or, slice_get, length, Contains}
+-- Clauses and the literals that watch them.
+use Rattle.std.specs.Prelude.{◌≡◌, ℕ, ◌+◌, ◌*◌, ◌%◌, ◌<◌, ◌≤◌, if◌then◌else◌, List, [], Some, get_or, slice_get, length, Contains, ◌⊎◌}
 use Rattle.cs_base.specs.declared.formula.Lit.{Lit}
 use Rattle.cs_base.specs.declared.formula.Clause.{Clause}
+use Rattle.cs_rup.specs.declared.watch.Watch.{Watch}
+use Rattle.cs_rup.specs.declared.store.Store.{Store}
+use Rattle.cs_rup.specs.Settings.{Setting, HasTrue, HasPair, IsOpen}
 
 -- lists of places of clauses
 abbrev pub Lists : Type 0
@@ -19,13 +22,65 @@ place_of n lit = code lit % n
 abbrev pub list_of : Lists → Lit → List ℕ
 list_of lists lit = get_or lists (place_of (length lists) lit) []
 
--- the list of each literal has the place of each clause in which it occurs
-pub record AreListed (clauses : List Clause) (lists : Lists) : Type 0 where
-  pub some : 0 < length lists
-  pub each : (place : ℕ) (clause : Clause) (lit : Lit) → slice_get clauses place ≡ Some clause
-      → Contains clause.lits lit → Contains (list_of lists lit) place
+-- one of the two literals has this list, among n
+abbrev pub HasList : ℕ → ℕ → Watch → Type 0
+HasList n index watch = (place_of n watch.one.lit ≡ index) ⊎ (place_of n watch.other.lit ≡ index)
+
+-- the lists of both literals have the place
+abbrev pub IsListed : Lists → Watch → ℕ → Type 0
+IsListed lists watch place = Contains (list_of lists watch.one.lit) place × Contains (list_of lists watch.other.lit) place
+
+-- each clause has a watch, and the lists of its literals have the clause's place
+pub record AreListed (store : Store) : Type 0 where
+  pub some : 0 < length store.lists.items
+  pub enough : length store.clauses ≤ length store.watches.items
+  pub each : (place : ℕ) (watch : Watch) → slice_get store.watches.items place ≡ Some watch
+      → IsListed store.lists.items watch place
 
 -- lists keep what they have
 pub record ListsGrow (old new : Lists) : Type 0 where
   pub count : length new ≡ length old
   pub keeps : (lit : Lit) (place : ℕ) → Contains (list_of old lit) place → Contains (list_of new lit) place
+
+-- only the lists change
+pub record AreSame (old new : Store) : Type 0 where
+  pub clauses : new.clauses ≡ old.clauses
+  pub watches : new.watches.items ≡ old.watches.items
+
+-- what is watched stays so
+abbrev pub KeepsWatches : Store → Store → Type 0
+KeepsWatches old new = (place : ℕ) (watch : Watch) → slice_get old.watches.items place ≡ Some watch
+    → slice_get new.watches.items place ≡ Some watch
+
+-- a clause is watched by two of its literals, both free in some sense
+pub record IsWatching (IsFree : Lit → Type 0) (store : Store) (place : ℕ) (lits : List Lit) : Type 0 where
+  pub watch : Watch
+  pub found : slice_get store.watches.items place ≡ Some watch
+  pub pair : HasPair IsFree watch lits
+
+-- a literal of the clause is true, or two that watch it are not false
+abbrev pub IsWatched : Setting → Store → ℕ → List Lit → Type 0
+IsWatched s store place lits = HasTrue s lits ⊎ IsWatching (IsOpen s) store place lits
+
+-- so is each clause
+abbrev pub AllWatched : Setting → Store → Type 0
+AllWatched s store =
+    (i : ℕ) (clause : Clause) → slice_get store.clauses i ≡ Some clause → IsWatched s store i clause.lits
+
+-- so is each clause before this place
+abbrev pub WatchedBelow : Setting → Store → ℕ → Type 0
+WatchedBelow s store seen =
+    (i : ℕ) (clause : Clause) → i < seen → slice_get store.clauses i ≡ Some clause → IsWatched s store i clause.lits
+
+-- each clause is watched as before, or by two of its literals that are not false under the setting
+pub record IsRewatched (s : Setting) (old new : Store) : Type 0 where
+  pub clauses : new.clauses ≡ old.clauses
+  pub each : (i : ℕ) (clause : Clause) → slice_get old.clauses i ≡ Some clause
+      → (slice_get new.watches.items i ≡ slice_get old.watches.items i) ⊎ IsWatching (IsOpen s) new i clause.lits
+
+-- one clause is watched as before, or by two of its literals that are not false under the setting, the others as before
+pub record IsRewatchedAt (s : Setting) (old new : Store) (place : ℕ) (lits : List Lit) : Type 0 where
+  pub clauses : new.clauses ≡ old.clauses
+  pub others : (i : ℕ) → (i ≡ place → ⊥) → slice_get new.watches.items i ≡ slice_get old.watches.items i
+  pub here : (slice_get new.watches.items place ≡ slice_get old.watches.items place)
+      ⊎ IsWatching (IsOpen s) new place lits

@@ -1,17 +1,16 @@
 // Lines checked one by one.
 ghost use Rattle.std.specs.Prelude.{◌≡◌, ◌++◌, ◌<◌, ◌≤◌, ◌^◌, ◌↔◌, [], ◌∷◌, map, true, if◌then◌else◌, IsTrue, OnOk, OnErr, IfOk, IfErr, length};
 ghost use Rattle.cs_base.specs.Derivations.{negated, IsRup};
-ghost use Rattle.cs_rup.specs.Settings.{setting_of, AllFalse, IsQuiet};
-ghost use Rattle.cs_rup.specs.Stores.{AreListed};
-ghost use Rattle.cs_rup.specs.Trails.{IsSound, Explains, AllQuiet, QuietBelow, QuietFrom};
-ghost use Rattle.cs_rup.specs.Checkers.{IsSettled, Settles};
+ghost use Rattle.cs_rup.specs.Settings.{AllFalse};
+ghost use Rattle.cs_rup.specs.Stores.{AreListed, IsRewatched, AllWatched, WatchedBelow};
+ghost use Rattle.cs_rup.specs.Trails.{set_by, Grows, IsSound, Explains};
+ghost use Rattle.cs_rup.specs.Checkers.{Answers};
 
 use crate::error::Stop;
-use crate::status::{Status, status_of};
 use crate::store::Store;
 use crate::trail::Trail;
 use crate::values::Values;
-use cs_base::{Clause, Formula, Lit, Sequence};
+use cs_base::{Clause, Formula, Lit};
 use std::alloc::{AllocError, Global};
 use std::marker::Model;
 
@@ -19,9 +18,11 @@ use std::marker::Model;
 #[derive(Drop)]
 pub struct Checker {
     store: Store,
-    /// what propagation sets where nothing is given; None where it meets a conflict, so that all lines are RUP
-    settled: Option<Values>,
-    /// of so many clauses, each asks for nothing under these values
+    /// what propagation sets where nothing is given
+    trail: Trail,
+    /// whether it meets a conflict there, so that all lines are RUP
+    refuted: bool,
+    /// so many clauses are watched by literals that are not false there, or have a true one
     seen: usize,
 }
 
@@ -35,7 +36,7 @@ impl Model for Checker {
     ghost view = { λ checker. checker.store.clauses };
 
     ghost invariant = { λ checker.
-        IsKept checker.store.clauses checker.store.lists.items checker.settled checker.seen };
+        IsKept checker.store checker.refuted checker.trail checker.seen };
 }
 
 // The number of literals in a formula's clauses, or of its variables where there are fewer, and 1 more.
@@ -50,78 +51,38 @@ fn size_of(f: &Formula) -> usize
     literals.min(f.vars as usize) + 1
 }
 
-fn copy_of(alloc: Global, clause: &Clause) -> Result<Clause, AllocError>
-    ensures { IfOk result (λ copy. copy ≡ clause.now) }
-{
-    let mut lits = Vec::new(alloc);
-    lits.extend_from_slice(clause.lits.as_slice())?;
-    Ok(Clause {
-        lits: Sequence::from_vec(lits),
-    })
-}
-
-// The values at the end of propagation, with the literals of a line set false, from values under which the
-// clauses before `seen` ask for nothing.
-fn propagated(
-    alloc: Global,
-    store: &Store,
-    settled: &Values,
+// Propagates from a line's literals set false, where the clauses before `seen` are watched.
+fn propagate_from(
+    trail: &mut Trail,
+    store: &mut Store,
     seen: usize,
     line: &[Lit],
-) -> Result<Values, Stop>
-    requires listed { AreListed store.now.clauses store.now.lists.items }
-    requires quiet { QuietBelow (setting_of settled.now) store.now.clauses seen }
-    ensures quiet { IfOk result (λ values. AllQuiet (setting_of values) store.now.clauses) }
-    ensures given { IfOk result (λ values. AllFalse (setting_of values) line.now) }
-    ensures sound { IfOk result (λ values. IsSound store.now.clauses [] (setting_of settled.now)
-        → IsSound store.now.clauses (map negated line.now) (setting_of values)) }
-    ensures err { IfErr result (λ stop. IsSound store.now.clauses [] (setting_of settled.now)
-        → Explains store.now.clauses (map negated line.now) stop) }
+) -> Result<(), Stop>
+    requires listed { AreListed store.old }
+    requires watched { WatchedBelow (set_by trail.old) store.old seen }
+    ensures listed { AreListed store.new }
+    ensures rewatched { IsRewatched (set_by trail.old) store.old store.new }
+    ensures grows { Grows trail.old trail.new }
+    ensures watched { OnOk result (AllWatched (set_by trail.new) store.new) }
+    ensures given { OnOk result (AllFalse (set_by trail.new) line.now) }
+    ensures sound { OnOk result (IsSound store.old.clauses [] (set_by trail.old)
+        → IsSound store.old.clauses (map negated line.now) (set_by trail.new)) }
+    ensures err { IfErr result (λ stop. IsSound store.old.clauses [] (set_by trail.old)
+        → Explains store.old.clauses (map negated line.now) stop) }
 {
-    let mut trail = Trail::new(alloc, settled.copy(alloc)?);
     trail.refute(line)?;
     trail.examine_from(store, seen)?;
     trail.propagate(store)?;
-    Ok(trail.values)
+    Ok(())
 }
 
-// Whether a clause asks for nothing.
-fn is_quiet(values: &Values, clause: &Clause) -> bool
-    ensures { IsTrue result → IsQuiet (setting_of values.now) clause.now.lits }
+// Whether propagation stopped at a conflict. It errs where memory ran out.
+fn meets_conflict(end: Result<(), Stop>) -> Result<bool, AllocError>
+    ensures { Answers end result }
 {
-    match status_of(values, clause.lits.as_slice()) {
-        Status::Quiet => true,
-        _ => false,
-    }
-}
-
-// Whether the clauses from this place on ask for nothing.
-fn are_quiet(store: &Store, values: &Values, seen: usize) -> bool
-    ensures { IsTrue result → QuietFrom (setting_of values.now) store.now.clauses seen }
-{
-    let clauses = store.clauses.as_slice();
-    for place in seen..clauses.len() {
-        if !is_quiet(values, &clauses[place]) {
-            return false;
-        }
-    }
-    true
-}
-
-// What propagation sets from all clauses where nothing is given, from values that hold there already.
-fn settled_from(
-    alloc: Global,
-    store: &Store,
-    values: &Values,
-    seen: usize,
-) -> Result<Option<Values>, AllocError>
-    requires listed { AreListed store.now.clauses store.now.lists.items }
-    requires settled { IsSettled store.now.clauses values.now seen }
-    ensures { IfOk result (λ settled. Settles store.now.clauses settled (length store.now.clauses)) }
-{
-    match propagated(alloc, store, values, seen, &[]) {
-        Ok(values) => Ok(Some(values)),
-        Err(Stop::Conflict) => Ok(None),
+    match end {
+        Ok(()) => Ok(false),
+        Err(Stop::Conflict) => Ok(true),
         Err(Stop::NoMemory) => Err(AllocError),
     }
 }
@@ -132,9 +93,11 @@ impl Checker {
         ensures { IfOk result (λ checker. checker ≡ f.now.clauses) }
     {
         let size = size_of(f);
+        let values = Values::new(alloc, size)?;
         let mut checker = Checker {
             store: Store::new(alloc, 2 * size)?,
-            settled: Some(Values::new(alloc, size)?),
+            trail: Trail::new(alloc, values),
+            refuted: false,
             seen: 0,
         };
         for clause in f.clauses.as_slice() {
@@ -148,39 +111,52 @@ impl Checker {
         ensures ok { OnOk result (self.new ≡ self.old ++ clause.now ∷ []) }
         ensures err { OnErr result (self.new ≡ self.old) }
     {
-        let copy = copy_of(alloc, clause)?;
+        let copy = clause.copy(alloc)?;
         self.store.add(copy)?;
         Ok(())
     }
 
     // Propagates from all clauses where nothing is given.
-    fn settle(&mut self, alloc: Global) -> Result<(), AllocError>
+    fn settle(&mut self) -> Result<(), AllocError>
         ensures { self.new ≡ self.old }
     {
-        let Some(values) = &self.settled else {
-            return Ok(());
-        };
-        if are_quiet(&self.store, values, self.seen) {
-            self.seen = self.store.clauses.len();
+        if self.refuted {
             return Ok(());
         }
-        self.settled = settled_from(alloc, &self.store, values, self.seen)?;
-        self.seen = self.store.clauses.len();
-        Ok(())
+        match propagate_from(&mut self.trail, &mut self.store, self.seen, &[]) {
+            Ok(()) => {
+                self.trail.keep();
+                self.seen = self.store.clauses.len();
+                Ok(())
+            }
+            Err(Stop::Conflict) => {
+                self.trail.undo();
+                self.refuted = true;
+                Ok(())
+            }
+            Err(Stop::NoMemory) => {
+                self.trail.undo();
+                Err(AllocError)
+            }
+        }
     }
 
     // Whether the line is RUP from the clauses.
-    fn is_rup(&self, alloc: Global, line: &Clause) -> Result<bool, AllocError>
-        ensures { IfOk result (λ yes. IsTrue yes ↔ IsRup self.now line.now) }
+    fn is_rup(&mut self, line: &Clause) -> Result<bool, AllocError>
+        ensures same { self.new ≡ self.old }
+        ensures answer { IfOk result (λ yes. IsTrue yes ↔ IsRup self.old line.now) }
     {
-        let Some(values) = &self.settled else {
+        if self.refuted {
             return Ok(true);
-        };
-        match propagated(alloc, &self.store, values, self.seen, line.lits.as_slice()) {
-            Ok(_) => Ok(false),
-            Err(Stop::Conflict) => Ok(true),
-            Err(Stop::NoMemory) => Err(AllocError),
         }
+        let end = propagate_from(
+            &mut self.trail,
+            &mut self.store,
+            self.seen,
+            line.lits.as_slice(),
+        );
+        self.trail.undo();
+        meets_conflict(end)
     }
 
     /// Whether the line is RUP from the clauses, among which it is kept then; otherwise nothing changes
@@ -192,8 +168,8 @@ impl Checker {
             ≡ (if yes then self.old ++ line.now ∷ [] else self.old)) }
         ensures err { OnErr result (self.new ≡ self.old) }
     {
-        self.settle(alloc)?;
-        let accepted = self.is_rup(alloc, line)?;
+        self.settle()?;
+        let accepted = self.is_rup(line)?;
         if accepted {
             self.keep(alloc, line)?;
         }

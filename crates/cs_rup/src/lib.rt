@@ -10,6 +10,7 @@ mod status;
 mod store;
 mod trail;
 mod values;
+mod watch;
 
 pub use checker::Checker;
 pub use derivation::check;

@@ -1,50 +1,88 @@
-// What a clause asks for under a setting.
-ghost use Rattle.std.specs.Prelude.{◌≡◌, not, find};
-ghost use Rattle.std.specs.List.{list_any};
-ghost use Rattle.cs_rup.specs.Settings.{setting_of, is_false, is_same as is_same_lit, is_other, Asks};
+// What a clause asks for under a setting. The search for literals that are not false begins where it ended before.
+ghost use Rattle.std.specs.Prelude.{◌≡◌, ℕ, ◌≤◌, ◌<◌, true, false, length, slice_get, Some, Contains, IfSome, IfNone};
+ghost use Rattle.cs_base.specs.declared.formula.Lit.{Lit as Literal};
+ghost use Rattle.cs_rup.specs.Settings.{setting_of, is_same as is_same_lit, is_sought as is_sought_in, Asks};
 
 use crate::values::Values;
+use crate::watch::{Spot, Watch};
 use cs_base::Lit;
 
-/// What a clause asks for: nothing, that a literal is set true, or it is a conflict.
+/// What a clause asks for: nothing, since a literal is true or since two are not false; that a literal is set true;
+/// or it is a conflict.
 #[derive(Clone, Copy)]
 pub enum Status {
-    Quiet,
+    Satisfied,
+    Open(Watch),
     Unit(Lit),
     Falsified,
 }
 
-fn is_same(a: Lit, b: Lit) -> bool
+/// Whether two literals are one and the same.
+pub fn is_same(a: Lit, b: Lit) -> bool
     ensures { result ≡ is_same_lit a b }
 {
     a.var == b.var && a.positive == b.positive
 }
 
-fn first_open(values: &Values, lits: &[Lit]) -> Option<Lit>
-    ensures { result ≡ find (λ lit. not (is_false (setting_of values.now) lit)) lits.now }
+// Whether a literal is not false, and is not the one to skip.
+fn is_sought(values: &Values, skip: Option<Lit>, lit: Lit) -> bool
+    ensures { result ≡ is_sought_in (setting_of values.now) skip lit }
 {
-    lits.iter().copied().find(|lit| !values.is_false(*lit))
+    match skip {
+        Some(first) => !is_same(lit, first) && !values.is_false(lit),
+        None => !values.is_false(lit),
+    }
 }
 
-fn has_other(values: &Values, lits: &[Lit], first: Lit) -> bool
-    ensures { result ≡ list_any (is_other (setting_of values.now) first) lits.now }
+// The first literal that is sought from `start` to before `end`.
+fn sought_in(
+    values: &Values,
+    lits: &[Lit],
+    skip: Option<Lit>,
+    start: usize,
+    end: usize,
+) -> Option<Spot>
+    requires { end ≤ length lits.now }
+    ensures among { IfSome result (λ spot. Contains lits.now spot.lit) }
+    ensures is { IfSome result (λ spot. is_sought_in (setting_of values.now) skip spot.lit ≡ true) }
+    ensures none { IfNone result ((k : ℕ) (lit : Literal) → start ≤ k → k < end
+        → slice_get lits.now k ≡ Some lit → is_sought_in (setting_of values.now) skip lit ≡ false) }
 {
-    lits.iter()
-        .any(|lit| !is_same(*lit, first) && !values.is_false(*lit))
+    for at in start..end {
+        let lit = lits[at];
+        if is_sought(values, skip, lit) {
+            return Some(Spot { at, lit });
+        }
+    }
+    None
 }
 
-/// What a clause of these literals asks for.
-pub fn status_of(values: &Values, lits: &[Lit]) -> Status
+// The first literal that is sought from this place on, and round to it again.
+fn sought_from(values: &Values, lits: &[Lit], skip: Option<Lit>, from: usize) -> Option<Spot>
+    ensures among { IfSome result (λ spot. Contains lits.now spot.lit) }
+    ensures is { IfSome result (λ spot. is_sought_in (setting_of values.now) skip spot.lit ≡ true) }
+    ensures none { IfNone result ((lit : Literal) → Contains lits.now lit
+        → is_sought_in (setting_of values.now) skip lit ≡ false) }
+{
+    let middle = from.min(lits.len());
+    match sought_in(values, lits, skip, middle, lits.len()) {
+        Some(spot) => Some(spot),
+        None => sought_in(values, lits, skip, 0, middle),
+    }
+}
+
+/// What a clause of these literals asks for. The search begins at the places of `watch`.
+pub fn status_of(values: &Values, lits: &[Lit], watch: Watch) -> Status
     ensures { Asks (setting_of values.now) lits.now result }
 {
-    match first_open(values, lits) {
-        None => Status::Falsified,
-        Some(first) => {
-            if values.is_true(first) || has_other(values, lits, first) {
-                Status::Quiet
-            } else {
-                Status::Unit(first)
-            }
-        }
+    let Some(one) = sought_from(values, lits, None, watch.one.at) else {
+        return Status::Falsified;
+    };
+    if values.is_true(one.lit) {
+        return Status::Satisfied;
+    }
+    match sought_from(values, lits, Some(one.lit), watch.other.at) {
+        Some(other) => Status::Open(Watch { one, other }),
+        None => Status::Unit(one.lit),
     }
 }

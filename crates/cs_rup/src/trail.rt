@@ -1,18 +1,18 @@
-// Unit propagation: a literal that is set false makes the clauses in which it occurs be looked at, and each that
+// Unit propagation: a literal that is set false makes the clauses be looked at that it watches, and each that
 // is unit sets its literal. The literals that are set stand in a trail, and propagation goes along it.
-ghost use Rattle.std.specs.Prelude.{◌≡◌, ℕ, ◌≤◌, true, [], List, map, length, slice_get, Some, None, Contains, OnOk, IfErr};
+ghost use Rattle.std.specs.Prelude.{◌≡◌, ℕ, ◌≤◌, ◌<◌, true, [], List, map, length, slice_get, Some, None, Contains, OnOk, IfErr};
 ghost use Rattle.cs_base.specs.declared.formula.Lit.{Lit as Literal};
 ghost use Rattle.cs_base.specs.declared.formula.Clause.{Clause as Lits};
 ghost use Rattle.cs_base.specs.Derivations.{negated as negated_lit};
-ghost use Rattle.cs_rup.specs.Settings.{is_false, AllFalse, IsQuiet, IsSetIn};
-ghost use Rattle.cs_rup.specs.Stores.{AreListed};
-ghost use Rattle.cs_rup.specs.Trails.{IsSound, Explains, StaysSound, ExplainsAny, set_by, Grows, Waits, AllWait, AllQuiet};
+ghost use Rattle.cs_rup.specs.Settings.{is_false, AllFalse, Asks, IsSetIn};
+ghost use Rattle.cs_rup.specs.Stores.{AreListed, IsWatched, AllWatched, IsRewatchedAt, IsRewatched, list_of};
+ghost use Rattle.cs_rup.specs.Trails.{IsSound, Explains, StaysSound, ExplainsAny, set_by, Grows, IsUndone, Waits, AllWait};
 
 use crate::error::Stop;
 use crate::status::{Status, status_of};
 use crate::store::Store;
 use crate::values::Values;
-use cs_base::{Clause, Lit};
+use cs_base::Lit;
 use std::alloc::{AllocError, Global};
 
 /// The literals that are set true, and of those set here the order.
@@ -20,16 +20,6 @@ use std::alloc::{AllocError, Global};
 pub struct Trail {
     pub values: Values,
     pub lits: Vec<Lit>,
-}
-
-/// The other literal of the same variable.
-pub fn negated(lit: Lit) -> Lit
-    ensures { result ≡ negated_lit lit }
-{
-    Lit {
-        var: lit.var,
-        positive: !lit.positive,
-    }
 }
 
 impl Trail {
@@ -44,28 +34,57 @@ impl Trail {
         }
     }
 
+    /// What is set stays so from now on.
+    pub fn keep(&mut self)
+        ensures values { self.new.values ≡ self.old.values }
+        ensures lits { self.new.lits.items ≡ [] }
+    {
+        self.lits.clear();
+    }
+
+    /// Takes back all that was set since.
+    pub fn undo(&mut self)
+        ensures undone { IsUndone self.old self.new }
+        ensures empty { self.new.lits.items ≡ [] }
+    {
+        while let Some(lit) = self.lits.pop() {
+            self.values.unset(lit.var);
+        }
+    }
+
     // Sets a literal true whose variable has no value yet.
     fn set(&mut self, lit: Lit) -> Result<(), AllocError>
         requires { set_by self.old lit.var ≡ None }
         ensures set { OnOk result (IsSetIn (set_by self.old) (set_by self.new) lit) }
-        ensures grows { OnOk result (Grows self.old self.new) }
+        ensures grows { Grows self.old self.new }
     {
-        self.values.set(lit)?;
         self.lits.push(lit)?;
+        self.values.set(lit)?;
         Ok(())
     }
 
-    // Looks at a clause: one that is unit sets its literal, one that is falsified is a conflict.
-    fn examine(&mut self, clause: &Clause) -> Result<(), Stop>
-        ensures grows { OnOk result (Grows self.old self.new) }
-        ensures quiet { OnOk result (IsQuiet (set_by self.new) clause.now.lits) }
-        ensures sound { OnOk result ((clauses : List Lits) → Contains clauses clause.now
-            → StaysSound clauses self.old self.new) }
-        ensures err { IfErr result (λ stop. (clauses : List Lits) → Contains clauses clause.now
-            → ExplainsAny clauses self.old stop) }
+    // Does what a clause asks for.
+    fn follow(&mut self, store: &mut Store, place: usize, status: Status) -> Result<(), Stop>
+        requires listed { AreListed store.old }
+        requires within { place < length store.old.clauses }
+        requires asked { (lits : List Literal) × Asks (set_by self.old) lits status }
+        ensures listed { AreListed store.new }
+        ensures rewatched { (lits : List Literal) → Asks (set_by self.old) lits status
+            → IsRewatchedAt (set_by self.old) store.old store.new place lits }
+        ensures grows { Grows self.old self.new }
+        ensures watched { OnOk result ((lits : List Literal) → Asks (set_by self.old) lits status
+            → IsWatched (set_by self.new) store.new place lits) }
+        ensures sound { OnOk result ((clauses : List Lits) (clause : Lits) → Contains clauses clause
+            → Asks (set_by self.old) clause.lits status → StaysSound clauses self.old self.new) }
+        ensures err { IfErr result (λ stop. (clauses : List Lits) (clause : Lits) → Contains clauses clause
+            → Asks (set_by self.old) clause.lits status → ExplainsAny clauses self.old stop) }
     {
-        match status_of(&self.values, clause.lits.as_slice()) {
-            Status::Quiet => Ok(()),
+        match status {
+            Status::Satisfied => Ok(()),
+            Status::Open(watch) => {
+                store.rewatch(place, watch)?;
+                Ok(())
+            }
             Status::Unit(lit) => {
                 self.set(lit)?;
                 Ok(())
@@ -75,27 +94,34 @@ impl Trail {
     }
 
     // Looks at the clause of a place, if there is one.
-    fn look_at(&mut self, store: &Store, place: usize) -> Result<(), Stop>
-        ensures grows { OnOk result (Grows self.old self.new) }
-        ensures quiet { OnOk result ((clause : Lits) → slice_get store.now.clauses place ≡ Some clause
-            → IsQuiet (set_by self.new) clause.lits) }
-        ensures sound { OnOk result (StaysSound store.now.clauses self.old self.new) }
-        ensures err { IfErr result (ExplainsAny store.now.clauses self.old) }
+    fn look_at(&mut self, store: &mut Store, place: usize) -> Result<(), Stop>
+        requires { AreListed store.old }
+        ensures listed { AreListed store.new }
+        ensures rewatched { IsRewatched (set_by self.old) store.old store.new }
+        ensures grows { Grows self.old self.new }
+        ensures watched { OnOk result ((clause : Lits) → slice_get store.old.clauses place ≡ Some clause
+            → IsWatched (set_by self.new) store.new place clause.lits) }
+        ensures sound { OnOk result (StaysSound store.old.clauses self.old self.new) }
+        ensures err { IfErr result (ExplainsAny store.old.clauses self.old) }
     {
-        match store.clauses.as_slice().get(place) {
-            Some(clause) => self.examine(clause),
-            None => Ok(()),
-        }
+        let Some(clause) = store.clauses.as_slice().get(place) else {
+            return Ok(());
+        };
+        let status = status_of(&self.values, clause.lits.as_slice(), store.watches[place]);
+        self.follow(store, place, status)
     }
 
     // Looks at the clauses of these places.
-    fn visit(&mut self, store: &Store, places: &[usize]) -> Result<(), Stop>
-        ensures grows { OnOk result (Grows self.old self.new) }
+    fn look_at_all(&mut self, store: &mut Store, places: &[usize]) -> Result<(), Stop>
+        requires { AreListed store.old }
+        ensures listed { AreListed store.new }
+        ensures rewatched { IsRewatched (set_by self.old) store.old store.new }
+        ensures grows { Grows self.old self.new }
         ensures waits { OnOk result ((place : ℕ) (clause : Lits) → Contains places.now place
-            → slice_get store.now.clauses place ≡ Some clause
-            → Waits self.new (length self.old.lits.items) clause.lits) }
-        ensures sound { OnOk result (StaysSound store.now.clauses self.old self.new) }
-        ensures err { IfErr result (ExplainsAny store.now.clauses self.old) }
+            → slice_get store.old.clauses place ≡ Some clause
+            → Waits self.new (length self.old.lits.items) store.new place clause.lits) }
+        ensures sound { OnOk result (StaysSound store.old.clauses self.old self.new) }
+        ensures err { IfErr result (ExplainsAny store.old.clauses self.old) }
     {
         for place in places {
             self.look_at(store, *place)?;
@@ -103,9 +129,28 @@ impl Trail {
         Ok(())
     }
 
+    // Looks at the clauses that a literal watches.
+    fn visit(&mut self, store: &mut Store, lit: Lit) -> Result<(), Stop>
+        requires { AreListed store.old }
+        ensures listed { AreListed store.new }
+        ensures rewatched { IsRewatched (set_by self.old) store.old store.new }
+        ensures grows { Grows self.old self.new }
+        ensures waits { OnOk result ((place : ℕ) (clause : Lits)
+            → Contains (list_of store.old.lists.items lit) place
+            → slice_get store.old.clauses place ≡ Some clause
+            → Waits self.new (length self.old.lits.items) store.new place clause.lits) }
+        ensures sound { OnOk result (StaysSound store.old.clauses self.old self.new) }
+        ensures err { IfErr result (ExplainsAny store.old.clauses self.old) }
+    {
+        let places = store.copy_of_list(lit)?;
+        let end = self.look_at_all(store, places.as_slice());
+        store.sweep(lit)?;
+        end
+    }
+
     // Sets a literal false; one that is true already is a conflict.
     fn set_false(&mut self, lit: Lit) -> Result<(), Stop>
-        ensures grows { OnOk result (Grows self.old self.new) }
+        ensures grows { Grows self.old self.new }
         ensures is_false { OnOk result (is_false (set_by self.new) lit ≡ true) }
         ensures sound { OnOk result ((clauses : List Lits) (given : List Literal)
             → Contains given (negated_lit lit) → IsSound clauses given (set_by self.old)
@@ -120,13 +165,13 @@ impl Trail {
         if self.values.is_false(lit) {
             return Ok(());
         }
-        self.set(negated(lit))?;
+        self.set(lit.negated())?;
         Ok(())
     }
 
     /// Sets the literals of a line false.
     pub fn refute(&mut self, line: &[Lit]) -> Result<(), Stop>
-        ensures grows { OnOk result (Grows self.old self.new) }
+        ensures grows { Grows self.old self.new }
         ensures given { OnOk result (AllFalse (set_by self.new) line.now) }
         ensures sound { OnOk result ((clauses : List Lits)
             → IsSound clauses (map negated_lit line.now) (set_by self.old)
@@ -142,12 +187,15 @@ impl Trail {
     }
 
     /// Looks at the clauses from this place on.
-    pub fn examine_from(&mut self, store: &Store, first: usize) -> Result<(), Stop>
-        ensures grows { OnOk result (Grows self.old self.new) }
+    pub fn examine_from(&mut self, store: &mut Store, first: usize) -> Result<(), Stop>
+        requires { AreListed store.old }
+        ensures listed { AreListed store.new }
+        ensures rewatched { IsRewatched (set_by self.old) store.old store.new }
+        ensures grows { Grows self.old self.new }
         ensures waits { OnOk result ((place : ℕ) (clause : Lits) → first ≤ place
-            → slice_get store.now.clauses place ≡ Some clause → Waits self.new 0 clause.lits) }
-        ensures sound { OnOk result (StaysSound store.now.clauses self.old self.new) }
-        ensures err { IfErr result (ExplainsAny store.now.clauses self.old) }
+            → slice_get store.old.clauses place ≡ Some clause → Waits self.new 0 store.new place clause.lits) }
+        ensures sound { OnOk result (StaysSound store.old.clauses self.old self.new) }
+        ensures err { IfErr result (ExplainsAny store.old.clauses self.old) }
     {
         for place in first..store.clauses.len() {
             self.look_at(store, place)?;
@@ -156,18 +204,20 @@ impl Trail {
     }
 
     /// Propagates to the end.
-    pub fn propagate(&mut self, store: &Store) -> Result<(), Stop>
-        requires listed { AreListed store.now.clauses store.now.lists.items }
-        requires waits { AllWait self.old 0 store.now.clauses }
-        ensures grows { OnOk result (Grows self.old self.new) }
-        ensures quiet { OnOk result (AllQuiet (set_by self.new) store.now.clauses) }
-        ensures sound { OnOk result (StaysSound store.now.clauses self.old self.new) }
-        ensures err { IfErr result (ExplainsAny store.now.clauses self.old) }
+    pub fn propagate(&mut self, store: &mut Store) -> Result<(), Stop>
+        requires listed { AreListed store.old }
+        requires waits { AllWait self.old 0 store.old }
+        ensures listed { AreListed store.new }
+        ensures rewatched { IsRewatched (set_by self.old) store.old store.new }
+        ensures grows { Grows self.old self.new }
+        ensures watched { OnOk result (AllWatched (set_by self.new) store.new) }
+        ensures sound { OnOk result (StaysSound store.old.clauses self.old self.new) }
+        ensures err { IfErr result (ExplainsAny store.old.clauses self.old) }
     {
         let mut next = 0;
         while next < self.lits.len() {
             let lit = self.lits[next];
-            self.visit(store, store.list_of(negated(lit)))?;
+            self.visit(store, lit.negated())?;
             next += 1;
         }
         Ok(())

@@ -1,6 +1,6 @@
 // The values of variables: a table for low variables, a map for the others.
-ghost use Rattle.std.specs.Prelude.{◌≡◌, ℕ, None, OnOk, IfOk};
-ghost use Rattle.cs_rup.specs.Settings.{setting_of, is_true as is_true_in, is_false as is_false_in, IsSetIn};
+ghost use Rattle.std.specs.Prelude.{◌≡◌, ℕ, None, OnOk, OnErr, IfOk};
+ghost use Rattle.cs_rup.specs.Settings.{setting_of, is_true as is_true_in, is_false as is_false_in, IsSetIn, IsUnsetIn, IsAlike};
 
 use cs_base::Lit;
 use std::alloc::{AllocError, Global};
@@ -22,18 +22,6 @@ impl Values {
         Ok(Values {
             table,
             others: BTreeMap::new(alloc),
-        })
-    }
-
-    /// A copy.
-    pub fn copy(&self, alloc: Global) -> Result<Values, AllocError>
-        ensures { IfOk result (λ values. (var : ℕ) → setting_of values var ≡ setting_of self.now var) }
-    {
-        let mut table = Vec::new(alloc);
-        table.extend_from_slice(self.table.as_slice())?;
-        Ok(Values {
-            table,
-            others: self.others.clone()?,
         })
     }
 
@@ -64,7 +52,8 @@ impl Values {
     /// Sets a literal true whose variable has no value yet.
     pub fn set(&mut self, lit: Lit) -> Result<(), AllocError>
         requires { setting_of self.old lit.var ≡ None }
-        ensures { OnOk result (IsSetIn (setting_of self.old) (setting_of self.new) lit) }
+        ensures ok { OnOk result (IsSetIn (setting_of self.old) (setting_of self.new) lit) }
+        ensures err { OnErr result (IsAlike (setting_of self.old) (setting_of self.new)) }
     {
         if (lit.var as usize) < self.table.len() {
             self.table[lit.var as usize] = Some(lit.positive);
@@ -72,5 +61,16 @@ impl Values {
             self.others.insert(lit.var, lit.positive)?;
         }
         Ok(())
+    }
+
+    /// Takes a variable's value away.
+    pub fn unset(&mut self, var: u32)
+        ensures { IsUnsetIn (setting_of self.old) (setting_of self.new) var }
+    {
+        if (var as usize) < self.table.len() {
+            self.table[var as usize] = None;
+        } else {
+            let _ = self.others.remove(&var);
+        }
     }
 }

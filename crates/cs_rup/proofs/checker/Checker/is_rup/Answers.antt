@@ -1,40 +1,39 @@
--- Propagation from the line decides.
-use Rattle.std.proofs.Common.{map, refl, sym, subst}
-use Rattle.cs_base.specs.Derivations.{negated, IsRup, MeetsConflict}
-use Rattle.cs_rup.specs.Settings.{setting_of, AllFalse}
-use Rattle.cs_rup.specs.Trails.{Explains}
+-- Propagation from the line decides, and is taken back.
+use Rattle.std.proofs.Common.{refl, subst, OnOk, IfErr, IfOk, IsTrue, map, [], ◌↔◌}
+use Rattle.cs_base.specs.Derivations.{negated, IsRup}
+use Rattle.cs_rup.specs.Settings.{AllFalse}
+use Rattle.cs_rup.specs.Trails.{set_by, IsSound, Explains}
 use Rattle.cs_rup.specs.Checkers.{IsSettled, Settles}
-use Rattle.cs_rup.proofs.Checkers.{conflict_rup, not_rup}
+use Rattle.cs_rup.proofs.Checkers.{conflict_rup, rup_answer, kept_undone}
 use Rattle.cs_rup.proofs.checker.Checker.is_rup.Goals as goal
-use Rattle.cs_rup.proofs.checker.Checker.is_rup.Goals.{in-Ok, in-Err-Conflict, in-Err-NoMemory}
 
-pub returns-in_default : goal.returns-in_default
-returns-in_default c =
-    let conflict = subst (λ settled. Settles c.self.inside.store.clauses settled c.self.inside.seen) c.in_default.is
+pub returns-then-self-clause-answer : goal.returns-then-self-clause-answer
+returns-then-self-clause-answer c =
+    let clauses = c.self.inside.store.clauses in
+    let conflict = subst (λ refuted. Settles c.self.inside.store refuted (set_by c.self.inside.trail) c.self.inside.seen) c.if-self.true
     c.self.invariant.settles in (
-      λ _. subst (λ clauses. IsRup clauses c.args.line.now) c.self.view_is
-          (conflict_rup c.self.inside.store.clauses c.args.line.now conflict),
+      λ _. subst (λ clauses. IsRup clauses c.args.line.now) c.self.view_is (conflict_rup clauses c.args.line.now conflict),
       λ _. refl,
     )
 
-pub returns : goal.returns
-returns c =
+pub returns-clause-answer : goal.returns-clause-answer
+returns-clause-answer c =
     let clauses = c.self.inside.store.clauses in
-    let is : IsSettled clauses c.in-Some.values c.self.inside.seen =
-    subst (λ settled. Settles clauses settled c.self.inside.seen) c.in-Some.is c.self.invariant.settles in
-    elim c.match-propagated.branch [
-      | in-Ok w ↦ rw w.result-is (
-        λ none. cc,
-        λ rup. absurd (not_rup clauses c.args.line.now (setting_of w.in-Ok.field-0) w.in-Ok.ensures.quiet
-            (subst (AllFalse (setting_of w.in-Ok.field-0)) c.as_slice.ensures w.in-Ok.ensures.given)
-            (subst (λ clauses. IsRup clauses c.args.line.now) (sym c.self.view_is) rup)),
-      )
-      | in-Err-Conflict w ↦ rw w.result-is (
-        λ _. subst (λ clauses. IsRup clauses c.args.line.now) c.self.view_is
-            (subst (λ lits. MeetsConflict clauses (map negated lits)) c.as_slice.ensures
-            (subst (Explains clauses (map negated c.as_slice.result.now)) w.in-Err-Conflict.field-0-is
-            (w.in-Err-Conflict.ensures.err is.sound))),
-        λ _. refl,
-      )
-      | in-Err-NoMemory w ↦ rw w.result-is tt
-    ]
+    let start = set_by c.self.inside.trail in
+    let end = c.propagate_from-end.result in
+    let is : IsSettled c.self.inside.store start c.self.inside.seen =
+    subst (λ refuted. Settles c.self.inside.store refuted start c.self.inside.seen) c.if-self.false c.self.invariant.settles in
+    subst (λ clauses. IfOk c.meets_conflict.result (λ yes. IsTrue yes ↔ IsRup clauses c.args.line.now)) c.self.view_is
+    (rup_answer clauses c.propagate_from-end.new.store c.args.line.now start (set_by c.propagate_from-end.new.trail) end
+    c.meets_conflict.result c.propagate_from-end.ensures.rewatched.clauses is.sound c.propagate_from-end.ensures.watched
+    (subst (λ lits. OnOk end (AllFalse (set_by c.propagate_from-end.new.trail) lits)) c.as_slice.ensures
+    c.propagate_from-end.ensures.given)
+    (subst (λ lits. IfErr end (λ stop. IsSound clauses [] start → Explains clauses (map negated lits) stop)) c.as_slice.ensures
+    c.propagate_from-end.ensures.err)
+    c.meets_conflict.ensures)
+
+pub invariant_of-self : goal.invariant_of-self
+invariant_of-self c =
+    kept_undone c.self.inside.store c.propagate_from-end.new.store c.self.inside.refuted c.self.inside.trail
+    c.propagate_from-end.new.trail c.undo.new.self c.self.inside.seen c.if-self.false c.self.invariant
+    c.propagate_from-end.ensures.listed c.propagate_from-end.ensures.rewatched c.propagate_from-end.ensures.grows c.undo.ensures.undone c.undo.ensures.empty

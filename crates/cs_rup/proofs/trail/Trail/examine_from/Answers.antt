@@ -1,34 +1,55 @@
 -- One clause more is looked at.
-use Rattle.std.proofs.Common.{◌≡◌, Some, arith, subst}
+use Rattle.std.proofs.Common.{◌≡◌, Some, inl, inr, arith, sym, subst}
 use Rattle.std.specs.List.{slice_get}
-use Rattle.cs_rup.proofs.Trails.{grows_more, waits_grown}
-use Rattle.std.proofs.Common.{inl, inr}
 use Rattle.std.proofs.lemmas.Bool.{cases_lt}
 use Rattle.std.proofs.lemmas.Option.{slice_get_within}
 use Rattle.std.proofs.lemmas.Result.{err_from_is_err_and}
+use Rattle.cs_rup.specs.Trails.{set_by, Waits}
+use Rattle.cs_rup.proofs.Trails.{grows_more, waits_grown, watched_waits, rewatched_more, sound_after, explains_after}
 use Rattle.cs_rup.proofs.trail.Trail.examine_from.Goals as goal
+
+pub returns-in_err-look_at-clause-rewatched : goal.returns-in_err-look_at-clause-rewatched
+returns-in_err-look_at-clause-rewatched c =
+    rewatched_more (set_by c.args.self.now) (set_by c.loop-place.self) c.args.store.now c.loop-place.store c.look_at.new.store
+    c.loop-place.invariant.grows.stays c.loop-place.invariant.rewatched c.look_at.ensures.rewatched
+
+pub returns-in_err-look_at-clause-grows : goal.returns-in_err-look_at-clause-grows
+returns-in_err-look_at-clause-grows c =
+    grows_more c.args.self.now c.loop-place.self c.look_at.new.self c.loop-place.invariant.grows c.look_at.ensures.grows
 
 pub returns-in_err-look_at-clause-err : goal.returns-in_err-look_at-clause-err
 returns-in_err-look_at-clause-err c =
     let p = err_from_is_err_and c.from_residual.result c.from_residual.ensures.1 in
-    rw (p.1, p.2) (λ given sound. c.in_err-look_at.ensures.err given (c.loop-place.invariant.sound given sound))
+    rw (p.1, p.2) (explains_after c.args.store.now.clauses c.loop-place.store.clauses c.args.self.now c.loop-place.self _
+    c.loop-place.invariant.rewatched.clauses c.loop-place.invariant.sound c.in_err-look_at.ensures.err)
 
 pub loop-place-preserved : goal.loop-place-preserved
 loop-place-preserved c =
     let before = c.args.self.now in
     let old = c.loop-place.self in
     let new = c.look_at.new.self in
-    let more = c.in_ok-look_at.ensures.grows in
+    let a = c.loop-place.store in
+    let b = c.look_at.new.store in
+    let more = c.look_at.ensures.grows in
     let i = c.loop-place.invariant in
+    let all = c.args.store.now.clauses in
     record {
+      listed = c.look_at.ensures.listed;
+      rewatched = rewatched_more (set_by before) (set_by old) c.args.store.now a b i.grows.stays i.rewatched
+          c.look_at.ensures.rewatched;
       grows = grows_more before old new i.grows more;
-      waits = λ k clause below found later. elim (cases_lt k c.loop-place.place) [
-        | inl lt ↦ waits_grown old new 0 clause.lits more (omega arith) (i.waits k clause lt found later)
-        | inr le ↦
-            let same : k ≡ c.loop-place.place = omega arith in
-            inl (c.in_ok-look_at.ensures.quiet clause (subst (λ j. slice_get c.args.store.now.clauses j ≡ Some clause) same found))
-      ];
-      sound = λ given sound. c.in_ok-look_at.ensures.sound given (i.sound given sound);
+      waits = λ k clause below found later.
+          let was = subst (λ cs. slice_get cs k ≡ Some clause) (sym i.rewatched.clauses) found in
+          elim (cases_lt k c.loop-place.place) [
+            | inl lt ↦ waits_grown old new 0 more (omega arith) a b k clause c.look_at.ensures.rewatched was
+                (i.waits k clause lt found later)
+            | inr le ↦
+                let same : c.loop-place.place ≡ k = omega arith in
+                subst (λ j. Waits new 0 b j clause.lits) same
+                (watched_waits new 0 b c.loop-place.place clause.lits (c.in_ok-look_at.ensures.watched clause
+                (subst (λ j. slice_get a.clauses j ≡ Some clause) (sym same) was)))
+          ];
+      sound = sound_after all a.clauses before old new i.rewatched.clauses i.sound c.in_ok-look_at.ensures.sound;
     }
 
 pub returns-clause-waits : goal.returns-clause-waits

@@ -17,6 +17,10 @@ among : (line : List Literal) (i : ℕ) (lit : Literal) → lit ≡ get_or line 
 among line i lit is within =
     contains_map negated line lit (contains_at line i lit (slice_get_read line (length line) i lit refl within is))
 
+pub returns-in_err-set_false-clause-grows : goal.returns-in_err-set_false-clause-grows
+returns-in_err-set_false-clause-grows c =
+    grows_more c.args.self.now c.loop-lit.self c.set_false.new.self c.loop-lit.invariant.grows c.set_false.ensures.grows
+
 pub returns-in_err-set_false-clause-err : goal.returns-in_err-set_false-clause-err
 returns-in_err-set_false-clause-err c =
     let p = err_from_is_err_and c.from_residual.result c.from_residual.ensures.1 in
@@ -29,7 +33,7 @@ loop-lit-preserved c =
     let before = c.args.self.now in
     let old = c.loop-lit.self in
     let new = c.set_false.new.self in
-    let more = c.in_ok-set_false.ensures.grows in
+    let more = c.set_false.ensures.grows in
     let i = c.loop-lit.invariant in
     let P : ℕ → Literal → Type 0 = λ k lit. is_false (set_by new) lit ≡ true in
     record {

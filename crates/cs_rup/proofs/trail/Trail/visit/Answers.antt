@@ -1,41 +1,36 @@
--- One clause more is looked at.
-use Rattle.std.proofs.Common.{◌≡◌, ℕ, Some, length, arith, rules}
-use Rattle.std.specs.List.{slice_get}
+-- The lists change once more at the end.
+use Rattle.std.proofs.Common.{◌≡◌, ℕ, Some, length, sym, subst, ◌∙◌}
+use Rattle.std.specs.List.{Contains, slice_get}
 use Rattle.cs_base.specs.declared.formula.Clause.{Clause as Lits}
-use Rattle.cs_rup.specs.Trails.{Waits}
-use Rattle.cs_rup.proofs.Lists.{at_contains, places_more}
-use Rattle.cs_rup.proofs.Trails.{grows_more, waits_grown}
-use Rattle.std.proofs.Common.{inl}
-use Rattle.std.proofs.lemmas.Option.{slice_get_within}
-use Rattle.std.proofs.lemmas.Result.{err_from_is_err_and}
+use Rattle.cs_rup.specs.Stores.{list_of}
+use Rattle.cs_rup.specs.Trails.{set_by, Waits}
+use Rattle.cs_rup.proofs.Lists.{on_ok}
+use Rattle.cs_rup.proofs.Trails.{rewatched_then, waits_same}
 use Rattle.cs_rup.proofs.trail.Trail.visit.Goals as goal
 
-pub returns-in_err-look_at-clause-err : goal.returns-in_err-look_at-clause-err
-returns-in_err-look_at-clause-err c =
-    let p = err_from_is_err_and c.from_residual.result c.from_residual.ensures.1 in
-    rw (p.1, p.2) (λ given sound. c.in_err-look_at.ensures.err given (c.loop-place.invariant.sound given sound))
+pub returns-in_err-sweep-clause-rewatched : goal.returns-in_err-sweep-clause-rewatched
+returns-in_err-sweep-clause-rewatched c =
+    rewatched_then (set_by c.args.self.now) c.args.store.now c.look_at_all-end.new.store c.sweep.new.self
+    c.look_at_all-end.ensures.rewatched c.sweep.ensures.same
 
-pub loop-place-preserved : goal.loop-place-preserved
-loop-place-preserved c =
-    let before = c.args.self.now in
-    let old = c.loop-place.self in
-    let new = c.look_at.new.self in
-    let more = c.in_ok-look_at.ensures.grows in
-    let i = c.loop-place.invariant in
-    let clauses = c.args.store.now.clauses in
-    let P : ℕ → ℕ → Type 0 = λ k place. (clause : Lits) → slice_get clauses place ≡ Some clause
-    → Waits new (length before.lits.items) clause.lits in
-    record {
-      grows = grows_more before old new i.grows more;
-      waits = places_more P c.args.places.now c.loop-place.place-index _ (search rules) c.loop-place-test.true
-          (λ k place below found clause at. waits_grown old new (length before.lits.items) clause.lits more i.grows.longer
-          (i.waits k place below found clause at))
-          (λ clause at. inl (c.in_ok-look_at.ensures.quiet clause at));
-      sound = λ given sound. c.in_ok-look_at.ensures.sound given (i.sound given sound);
-    }
+pub returns-clause-rewatched : goal.returns-clause-rewatched
+returns-clause-rewatched c =
+    rewatched_then (set_by c.args.self.now) c.args.store.now c.look_at_all-end.new.store c.sweep.new.self
+    c.look_at_all-end.ensures.rewatched c.sweep.ensures.same
 
 pub returns-clause-waits : goal.returns-clause-waits
-returns-clause-waits c place clause among found =
-    let at = at_contains c.args.places.now place among in
-    let within = slice_get_within c.args.places.now at.0 place at.1 in
-    c.loop-place.invariant.waits at.0 place (omega arith) at.1 clause found
+returns-clause-waits c =
+    let next = length c.args.self.now.lits.items in
+    let all = c.args.store.now.clauses in
+    let new = c.look_at_all-end.new.self in
+    let list = list_of c.args.store.now.lists.items c.args.lit in
+    let places : c.as_slice.result.now ≡ list = c.as_slice.ensures.value ∙ c.in_ok-places.ensures in
+    on_ok c.look_at_all-end.result
+    ((place : ℕ) (clause : Lits) → Contains c.as_slice.result.now place → slice_get all place ≡ Some clause
+    → Waits new next c.look_at_all-end.new.store place clause.lits)
+    ((place : ℕ) (clause : Lits) → Contains list place → slice_get all place ≡ Some clause
+    → Waits new next c.sweep.new.self place clause.lits)
+    (λ waits place clause has found.
+    waits_same new next c.look_at_all-end.new.store c.sweep.new.self place clause.lits c.sweep.ensures.same
+    (waits place clause (subst (λ l. Contains l place) (sym places) has) found))
+    c.look_at_all-end.ensures.waits
