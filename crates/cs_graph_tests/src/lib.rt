@@ -4,6 +4,8 @@
 #[cfg(test)]
 mod building;
 #[cfg(test)]
+mod cycles;
+#[cfg(test)]
 mod limits;
 #[cfg(test)]
 mod machines;

@@ -96,7 +96,7 @@ const WIRES: [Wire<'static>; 5] = [
     (5, 1, 4, &[false]),
 ];
 
-fn inverter_loop(rt: &impl Abort, alloc: Global) -> Machine {
+pub(crate) fn inverter_loop(rt: &impl Abort, alloc: Global) -> Machine {
     let [y, n1, n2, a, x] = WIRES;
     machine(rt, alloc, &KINDS, &[n2, n1, x, a, y]).expect(rt, "a machine")
 }
@@ -197,7 +197,13 @@ fn weights_under_lags(rt: HostRuntime) {
 }
 
 // Delay 2 for the inverters, and these for the exclusive or and its pins.
-fn gate_delays(rt: &impl Abort, alloc: Global, xor: u32, first: u32, second: u32) -> Delays {
+pub(crate) fn gate_delays(
+    rt: &impl Abort,
+    alloc: Global,
+    xor: u32,
+    first: u32,
+    second: u32,
+) -> Delays {
     assert!(rt; first <= xor && second <= xor && xor <= 1_000_000);
     let list = |items: &[u32]| Sequence::from_vec(items.to_vec(alloc).expect(rt, "delays"));
     let per_vertex = list(&[0, 0, 0, 2, 2, xor]);

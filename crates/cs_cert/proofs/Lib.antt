@@ -1,0 +1,4 @@
+pub mod StepLemmas
+pub mod SoundLemmas
+pub mod FloorLemmas
+pub mod BoundLemmas
