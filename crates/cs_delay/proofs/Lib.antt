@@ -1,0 +1,2 @@
+-- Lemmas on reading and on delays.
+pub mod OrderLemmas
