@@ -1,2 +1,4 @@
 -- Lemmas on reading and on delays.
 pub mod OrderLemmas
+pub mod ListLemmas
+pub mod DelayLemmas

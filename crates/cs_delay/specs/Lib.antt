@@ -2,3 +2,4 @@
 pub mod Tables
 pub mod Shape
 pub mod Gives
+pub mod Assigned
