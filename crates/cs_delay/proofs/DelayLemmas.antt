@@ -1,11 +1,10 @@
 -- The delays that a table gives: each within the bound, a pin's at most its vertex's, and one for each pin.
-use Rattle.std.proofs.Common.{◌≡◌, ℕ, zero, suc, ◌+◌, ◌≤◌, max, List, [], ◌∷◌, length, map, replicate, Bool, true, false, ◌||◌, cond, bytes_eq, nat_lt, Option, Some, None, option_map, option_and_then, unwrap_or, refl, sym, ap, ◌∙◌, subst, arith, codes}
+use Rattle.std.proofs.Common.{◌≡◌, ℕ, zero, suc, ◌≤◌, max, List, [], ◌∷◌, length, map, replicate, Bool, true, false, ◌||◌, cond, bytes_eq, Option, Some, None, option_map, option_and_then, unwrap_or, refl, sym, ap, ◌∙◌, subst, arith, codes}
 use Rattle.std.specs.Prelude.{slice_get, find}
-use Rattle.std.specs.List.{fold, list_any, AllByRecursion, range_with_len}
+use Rattle.std.specs.List.{fold, list_any, AllByRecursion}
 use Rattle.std.specs.Option.{option_or}
 use Rattle.std.proofs.lemmas.List.FromFn.{length-map-range_with_len}
 use Rattle.cs_cells.specs.Gates.{pin_count, pin_name}
-use Rattle.cs_graph.specs.declared.delays.Delays.{Delays}
 use Rattle.cs_graph.specs.declared.graph.Graph.{Graph}
 use Rattle.cs_graph.specs.declared.vertex.Vertex.{Vertex}
 use Rattle.cs_graph.specs.declared.vertex.VertexKind.{VertexKind}
@@ -14,7 +13,7 @@ use Rattle.cs_graph.specs.DelayBounds.{AreVertexDelays, ArePinDelays}
 use Rattle.cs_graph.specs.Invariant.{IsMachine}
 use Rattle.cs_graph.specs.Kinds as kinds
 use Rattle.cs_graph.specs.Period.{ArePinsOf}
-use Rattle.cs_delay.specs.Assigned.{delay_of, greatest, is_gate, listed_delay, needed_delays, needed_pins, own_delay, pin_delays, type_of, vertex_delay}
+use Rattle.cs_delay.specs.Assigned.{delay_of, is_gate, listed_delay, needed_delays, needed_pins, own_delay, pin_delays, type_of, vertex_delay}
 use Rattle.cs_delay.specs.declared.entry.DelayEntry.{DelayEntry}
 use Rattle.cs_delay.specs.declared.entry.PinDelay.{PinDelay}
 use Rattle.cs_delay.specs.declared.entry.PinDelays.{PinDelays}

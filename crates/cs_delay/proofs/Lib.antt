@@ -2,3 +2,4 @@
 pub mod OrderLemmas
 pub mod ListLemmas
 pub mod DelayLemmas
+mod Examples

@@ -1,14 +1,13 @@
 -- What is read of a delay table is in order, since the members of what JSON says are.
-use Rattle.std.proofs.Common.{◌≡◌, ℕ, List, [], ◌∷◌, Bool, true, false, cond, ◌&&◌, codes, Option, Some, None, Ok, Err, is_some, refl, sym, ap, subst}
-use Rattle.std.specs.List.{AllByRecursion}
+use Rattle.std.proofs.Common.{◌≡◌, ℕ, List, Bool, true, false, cond, ◌&&◌, codes, Option, Some, None, Ok, is_some, refl, sym, ap, subst}
 use Rattle.std.specs.Str.{is_utf8}
-use Rattle.serde_json.specs.Data.{Data, Members}
-use Rattle.serde_json.specs.Find.{get_member, as_object}
+use Rattle.serde_json.specs.Data.{Data}
+use Rattle.serde_json.specs.Find.{as_object}
 use Rattle.serde_json.specs.Read.{read}
 use Rattle.cs_json.specs.Readable.{AreInOrder}
 use Rattle.cs_json.specs.Shape.{json_of}
-use Rattle.cs_json.specs.Walk.{Read, found, members, required, each_member, entries}
-use Rattle.cs_json.proofs.Ordered.{IsOrdered, HasOrder, Holds, holds_at, read_ordered}
+use Rattle.cs_json.specs.Walk.{members, required, each_member, entries}
+use Rattle.cs_json.proofs.Ordered.{IsOrdered, Holds, holds_at, read_ordered}
 use Rattle.cs_json.proofs.Back.{bound, ok_same, required_from, object_from, members_from}
 use Rattle.cs_delay.specs.declared.entry.DelayEntry.{DelayEntry}
 use Rattle.cs_delay.specs.declared.entry.PinDelay.{PinDelay}

@@ -1,5 +1,5 @@
 -- The delay table that a JSON value is, or the first place that is refused. The walk goes by byte order of keys.
-use Rattle.std.specs.Prelude.{ℕ, ◌-◌, ◌^◌, min, List, Bool, true, false, ◌==◌, ◌&&◌, ◌||◌, if◌then◌else◌, Option, Some, None, Result, Ok, Err, is_some, option_map, option_and_then, unwrap_or, codes}
+use Rattle.std.specs.Prelude.{ℕ, ◌-◌, ◌^◌, min, List, Bool, false, ◌==◌, ◌&&◌, ◌||◌, if◌then◌else◌, Option, Some, None, Ok, Err, is_some, option_map, option_and_then, unwrap_or, codes}
 use Rattle.serde_json.specs.Data.{Data, Members}
 use Rattle.serde_json.specs.Find.{get_member, as_number, as_object, as_u64}
 use Rattle.cs_json.specs.declared.document.Place.{Place}

@@ -1,5 +1,5 @@
 -- What a delay table keeps: the order of its types and pins, and the bound of its delays.
-use Rattle.std.specs.Prelude.{ℕ, List, [], Bool, true, false, nat_lt, if◌then◌else◌, Option, Some, None, option_map, unwrap_or, find, codes}
+use Rattle.std.specs.Prelude.{ℕ, List, [], Bool, false, nat_lt, if◌then◌else◌, Option, Some, option_map, unwrap_or, find, codes}
 use Rattle.std.specs.List.{list_any, AllByRecursion}
 use Rattle.cs_json.specs.Readable.{AreInOrder}
 use Rattle.cs_delay.specs.declared.entry.DelayEntry.{DelayEntry}

@@ -1,7 +1,5 @@
 -- What is written is in order, and a walk's answer is that of the reader.
-use Rattle.std.proofs.Common.{ap, sym, ◌∙◌, subst}
 use Rattle.serde_json.specs.View.{view}
-use Rattle.cs_delay.specs.Shape.{reading_of, written}
 use Rattle.cs_delay.proofs.OrderLemmas.{written_ordered}
 use Rattle.cs_delay.proofs.read.table.Goals as goal
 
