@@ -1,0 +1,5 @@
+-- Lemmas on reading and on delays.
+pub mod OrderLemmas
+pub mod ListLemmas
+pub mod DelayLemmas
+mod Examples
