@@ -1,3 +1,4 @@
 pub mod Parts
 pub mod Formulas
 pub mod Derivations
+pub mod Ranges

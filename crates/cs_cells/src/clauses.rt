@@ -11,27 +11,18 @@ use cs_base::{Clause, Formula, Lit, Sequence};
 use std::alloc::{AllocError, Global};
 use std::mem;
 
-fn negated(lit: Lit) -> Lit
-    ensures { result ≡ negated_lit lit }
-{
-    Lit {
-        var: lit.var,
-        positive: !lit.positive,
-    }
-}
-
 // The literal that says that a literal has this value.
 fn has(lit: Lit, value: bool) -> Lit
     ensures { result ≡ has_value lit value }
 {
-    if value { lit } else { negated(lit) }
+    if value { lit } else { lit.negated() }
 }
 
 // The literal that says that a literal hasn't this value.
 fn has_not(lit: Lit, value: bool) -> Lit
     ensures { result ≡ has_not_value lit value }
 {
-    if value { negated(lit) } else { lit }
+    if value { lit.negated() } else { lit }
 }
 
 // The lowest digits of a number in base 2, the lowest first.
@@ -117,8 +108,8 @@ fn select_table(
 {
     let mut clauses = Vec::new(alloc);
     for (number, datum) in data_pins.iter().enumerate() {
-        clauses.push(select_clause(alloc, selects, number, negated(*datum), out)?)?;
-        clauses.push(select_clause(alloc, selects, number, *datum, negated(out))?)?;
+        clauses.push(select_clause(alloc, selects, number, datum.negated(), out)?)?;
+        clauses.push(select_clause(alloc, selects, number, *datum, out.negated())?)?;
     }
     Ok(clauses)
 }
@@ -128,7 +119,7 @@ fn selected_out(kind: Kind, out: Lit) -> Lit
     ensures { result ≡ selected_out_of kind out }
 {
     match kind {
-        Kind::Nmux => negated(out),
+        Kind::Nmux => out.negated(),
         _ => out,
     }
 }

@@ -9,7 +9,7 @@ use Rattle.cs_diff.specs.declared.system.Constraint.{Constraint}
 use Rattle.cs_diff.specs.declared.system.System.{System}
 use Rattle.cs_diff.specs.declared.reading.Reading.{Reading}
 use Rattle.cs_diff.specs.declared.reading.Reading.TheVariants.{Upper}
-use Rattle.cs_diff.specs.Ranges.{IsSmall}
+use Rattle.cs_base.specs.Ranges.{IsSmall}
 use Rattle.cs_diff.specs.Systems.{Holds, HasSolution, IsNegativeLoop, value_of}
 use Rattle.cs_diff.specs.Labels.{Labels, Parents, at, up, ancestor, ClimbsBy, IsForest, IsLowered, AreInRange, slack_of}
 use Rattle.cs_diff.proofs.LabelLemmas.{IsViolated, lowered_by}

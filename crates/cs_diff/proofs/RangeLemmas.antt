@@ -7,7 +7,7 @@ use Rattle.std.proofs.lemmas.Int.{ints, by_lt_z}
 use Rattle.std.proofs.lemmas.Bool.{cases_eq}
 use Rattle.std.proofs.lemmas.List.{get_or-set_same, get_or-set_other, length-set}
 use Rattle.std.proofs.lemmas.List.Sums.{sum_by-set, count_by-le-length}
-use Rattle.cs_diff.specs.Ranges.{IsSmall}
+use Rattle.cs_base.specs.Ranges.{IsSmall}
 use Rattle.cs_diff.specs.Labels.{Labels, at, AreInRange, gap, slack, slack_of}
 use Rattle.cs_diff.proofs.LabelLemmas.{IsViolated}
 

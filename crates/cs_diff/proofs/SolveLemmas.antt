@@ -9,7 +9,7 @@ use Rattle.std.proofs.lemmas.List.{get_or-map, get_or_past, length-map}
 use Rattle.std.proofs.lemmas.List.Sums.{sum_by-cons}
 use Rattle.cs_diff.specs.declared.system.System.{System}
 use Rattle.cs_diff.specs.declared.reading.Reading.TheVariants.{Upper}
-use Rattle.cs_diff.specs.Ranges.{IsSmall}
+use Rattle.cs_base.specs.Ranges.{IsSmall}
 use Rattle.cs_diff.specs.Systems.{Leads, IsNegativeLoop, IsSolution, HasSolution, IsUnder, IsGreatest, value_of, Explains}
 use Rattle.cs_diff.specs.declared.error.DiffError.{DiffError}
 use Rattle.cs_diff.specs.declared.error.DiffError.TheVariants.{Negative, NoMemory}

@@ -1,11 +1,7 @@
 -- The ranges that the numbers of a system keep.
 use Rattle.std.specs.Prelude.{◌≡◌, ℕ, ◌-◌, ◌^◌, ◌<◌, Bool, true, false, ℤ, pos, ◌+ℤ◌, ◌≤ℤ◌, List, Some, slice_get}
+use Rattle.cs_base.specs.Ranges.{IsSmall}
 use Rattle.cs_diff.specs.declared.system.Constraint.{Constraint}
-
--- an integer between -2^31 and 2^31, both included
-pub record IsSmall (z : ℤ) : Type 0 where
-  pub low : pos 0 ≤ℤ (z +ℤ pos (2 ^ 31))
-  pub high : z ≤ℤ pos (2 ^ 31)
 
 -- a constraint between two of the vertices, with a small bound
 pub record IsAmong (vertices : ℕ) (c : Constraint) : Type 0 where

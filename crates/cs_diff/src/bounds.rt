@@ -3,7 +3,7 @@ ghost use Rattle.std.specs.Prelude.{◌≡◌, ℤ, pos, Some, OnOk, IfOk, IfErr
 ghost use Rattle.std.specs.List.{All};
 ghost use Rattle.std.specs.Option.{unwrap_or};
 ghost use Rattle.cs_diff.specs.Labels.{AreStarts, AreSettled};
-ghost use Rattle.cs_diff.specs.Ranges.{IsSmall};
+ghost use Rattle.cs_base.specs.Ranges.{IsSmall};
 ghost use Rattle.cs_diff.specs.Systems.{HasSolution, IsGreatest, Explains, value_of};
 
 use crate::error::DiffError;

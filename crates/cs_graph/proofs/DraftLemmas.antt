@@ -15,7 +15,7 @@ use Rattle.cs_graph.specs.declared.memory.Memory.{Memory}
 use Rattle.cs_graph.specs.Kinds.{pin_count, output_count, read_width}
 use Rattle.cs_graph.specs.Invariant.{HasHost, HasMemories, HasMemory, HasOutput, IsNextPort, IsMemory}
 use Rattle.cs_graph.specs.Draft.{Draft, open_kinds, IsOpen, with_source, driven, registers, edge_count, weight, IsDraft}
-use Rattle.cs_order.proofs.ListLemmas.{at_push, at_replicate}
+use Rattle.cs_base.proofs.ListLemmas.{at_push, at_replicate}
 use Rattle.cs_graph.proofs.Lists.{get_left, get_set_cases}
 
 -- ---- a source

@@ -15,7 +15,7 @@ use Rattle.cs_order.specs.declared.topological.Arrangement.TheVariants.{Loop, Or
 use Rattle.cs_order.specs.Arrangements.{IfOrder}
 use Rattle.cs_order.specs.Graphs.{Graph, IsOrder, place_in, sources_of}
 use Rattle.cs_order.proofs.CallerLemmas.{place_after_source, place_positive}
-use Rattle.cs_order.proofs.ListLemmas.{at_contains}
+use Rattle.cs_base.proofs.ListLemmas.{at_contains}
 use Rattle.cs_net.specs.declared.elements.Element.{Element}
 use Rattle.cs_net.specs.Conditions.{number_in}
 use Rattle.cs_net.specs.Drivers.{holds_bit, is_bit}

@@ -10,7 +10,7 @@ use Rattle.cs_base.specs.declared.signal.Signal.{Signal}
 use Rattle.cs_base.specs.declared.signal.Signal.TheVariants.{Zero, One, Unknown, HighZ, Bit}
 use Rattle.cs_order.specs.Graphs.{DependsOn, IsLoop as IsLoopOfVertices, IsWalk, sources_of}
 use Rattle.cs_order.proofs.CallerLemmas.{depends_within}
-use Rattle.cs_order.proofs.ListLemmas.{contains_at, same_element}
+use Rattle.cs_base.proofs.ListLemmas.{contains_at, same_element}
 use Rattle.cs_net.specs.declared.elements.Element.{Element}
 use Rattle.cs_net.specs.Conditions.{number_in}
 use Rattle.cs_net.specs.Drivers.{IsChain, IsLoop, depends_on, holds_bit, is_bit}

@@ -11,7 +11,7 @@ use Rattle.cs_base.specs.declared.signal.Signal.TheVariants.{Zero, One, Unknown,
 use Rattle.cs_json.specs.Readable.{AreInOrder}
 use Rattle.cs_order.specs.Graphs.{DependsOn, IsLoop as IsLoopOfVertices}
 use Rattle.cs_order.proofs.CallerLemmas.{loop_last, loop_next}
-use Rattle.cs_order.proofs.ListLemmas.{same_element}
+use Rattle.cs_base.proofs.ListLemmas.{same_element}
 use Rattle.cs_net.specs.declared.elements.Element.{Element}
 use Rattle.cs_net.specs.declared.netlist.Cell.{Cell}
 use Rattle.cs_net.specs.Accept.{combinational_outputs, drives_one_of, feeds}

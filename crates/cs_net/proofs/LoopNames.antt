@@ -10,7 +10,7 @@ use Rattle.std.proofs.lemmas.Option.{slice_get-get_or, slice_get_within}
 use Rattle.std.proofs.Math.Seq.{take-suc}
 use Rattle.cs_order.specs.Graphs.{IsLoop as IsLoopOfVertices}
 use Rattle.cs_order.proofs.CallerLemmas.{loop_turned}
-use Rattle.cs_order.proofs.ListLemmas.{at_push, at_push_new, at_push_old}
+use Rattle.cs_base.proofs.ListLemmas.{at_push, at_push_new, at_push_old}
 use Rattle.cs_net.specs.Accept.{FeedOn, IsLoopOfCells, drives_one_of, feeds, is_below}
 use Rattle.cs_net.specs.Elements.{elements_of, graph_of}
 use Rattle.cs_net.specs.Loops.{AreNext, IsAtEnd, IsLeastAt, IsShortcut, name_at}

@@ -5,7 +5,7 @@ use Rattle.std.specs.Option.{option_or}
 use Rattle.std.proofs.lemmas.Bool.{cases_Bool, eq-eqb, eqb-true}
 use Rattle.std.proofs.lemmas.List.{length-append}
 use Rattle.std.proofs.lemmas.Option.{slice_get_past, slice_get_within}
-use Rattle.cs_order.proofs.ListLemmas.{at_push}
+use Rattle.cs_base.proofs.ListLemmas.{at_push}
 use Rattle.cs_net.specs.Loops.{AreNext, IsAtEnd, IsShortcut, IsShortcutTo, last_place, last_place_from}
 
 -- ---- the last place

@@ -4,7 +4,7 @@ use Rattle.std.proofs.Common.{zero, suc, Some, ◌≡◌, ℕ, ◌<◌, ◌≤�
 use Rattle.std.proofs.lemmas.Bool.{cases_lt}
 use Rattle.std.proofs.lemmas.List.{get_or_past, append-nil}
 use Rattle.cs_order.specs.Graphs.{Graph, DependsOn, IsOrder, IsWalk, IsLoop, place_in, push_source, sources_of}
-use Rattle.cs_order.proofs.ListLemmas.{contains_at, at_contains}
+use Rattle.cs_base.proofs.ListLemmas.{contains_at, at_contains}
 use Rattle.cs_order.proofs.PlaceLemmas.{place_at_most, place_of}
 use Rattle.cs_order.proofs.CountLemmas.{count_at_most, count_at_least}
 use Rattle.cs_order.proofs.RepeatLemmas.{no_repeat_turned}

@@ -8,7 +8,7 @@ use Rattle.std.proofs.lemmas.List.Folds.{sum_by-replicate}
 use Rattle.std.proofs.lemmas.List.Sums.{sum_by-set, sum_by-cons, count_by-le-length}
 use Rattle.std.proofs.Math.ListN.{length-set}
 use Rattle.cs_order.specs.Graphs.{HasNoRepeat}
-use Rattle.cs_order.proofs.ListLemmas.{contains_at}
+use Rattle.cs_base.proofs.ListLemmas.{contains_at}
 
 -- the numbers below n that stand in the list
 marks : ℕ → List ℕ → List Bool

@@ -4,7 +4,7 @@ use Rattle.std.specs.Prelude.{slice_get, Contains}
 use Rattle.std.proofs.lemmas.Option.{slice_get_within}
 use Rattle.cs_order.specs.Graphs.{Graph, DependsOn, IsOrder, IsLoop, HasNoRepeat, push_source, place_in, sources_of}
 use Rattle.cs_order.specs.Rows.{rows_of}
-use Rattle.cs_order.proofs.ListLemmas.{contains_at, at_contains}
+use Rattle.cs_base.proofs.ListLemmas.{contains_at, at_contains}
 
 rows : rows_of (0 ∷ 2 ∷ 2 ∷ []) (5 ∷ 6 ∷ 7 ∷ []) ≡ (5 ∷ 6 ∷ []) ∷ [] ∷ (7 ∷ []) ∷ []
 rows = refl

@@ -1,4 +1,3 @@
-pub mod ListLemmas
 pub mod RowLemmas
 pub mod PlaceLemmas
 pub mod RepeatLemmas

@@ -10,7 +10,7 @@ use Rattle.cs_order.specs.declared.state.State.{State}
 use Rattle.cs_order.specs.declared.state.State.TheVariants.{Unseen, Open, Placed}
 use Rattle.cs_order.specs.Graphs.{Graph, DependsOn, HasNoRepeat, IsAfterAll, IsOrder, IsWalk, IsLoop, sources_of}
 use Rattle.cs_order.specs.Searches.{IsSearch, AreThose, ArePassed, IsLinked, LeadsTo, IsSeen, StaysSeen, is_pending, pending, is_unseen, left, IsPartFrom}
-use Rattle.cs_order.proofs.ListLemmas.{contains_at, at_contains, at_push, at_push_old, at_push_new, at_take, take_at, at_set_same, at_set_other, at_replicate}
+use Rattle.cs_base.proofs.ListLemmas.{contains_at, at_contains, at_push, at_push_old, at_push_new, at_take, take_at, at_set_same, at_set_other, at_replicate}
 
 -- ---- the vertices of a state, where one vertex changes its state
 

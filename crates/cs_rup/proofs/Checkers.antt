@@ -3,6 +3,7 @@ use Rattle.std.proofs.Common.{◌≡◌, ℕ, ◌≤◌, Bool, true, false, inl,
 use Rattle.std.specs.List.{Contains, slice_get}
 use Rattle.std.proofs.lemmas.Bool.{cases_lt}
 use Rattle.std.proofs.lemmas.List.Elements.{Contains-append_left}
+use Rattle.cs_base.proofs.ListLemmas.{at_push}
 use Rattle.cs_base.specs.declared.formula.Lit.{Lit}
 use Rattle.cs_base.specs.declared.formula.Clause.{Clause}
 use Rattle.cs_base.specs.Derivations.{negated, MeetsConflict, IsRup}
@@ -17,7 +18,7 @@ use Rattle.cs_rup.specs.Stores.{AreListed, KeepsWatches, AllWatched, WatchedBelo
 use Rattle.cs_rup.specs.Trails.{IsSound, Explains, set_by, Grows, IsUndone, Waits, AllWait}
 use Rattle.cs_rup.specs.Checkers.{IsSettled, Settles, IsKept, Answers}
 use Rattle.cs_rup.proofs.Lists.{not_in_empty, mapped}
-use Rattle.cs_rup.proofs.Stores.{at_push, watching_free, rewatched_same}
+use Rattle.cs_rup.proofs.Stores.{watching_free, rewatched_same}
 use Rattle.cs_rup.proofs.Trails.{waits_grown, watched_waits, watched_rewatched, no_conflict}
 
 none_more : (given : List Lit) → AreIn [] given

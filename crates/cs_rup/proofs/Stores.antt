@@ -7,44 +7,13 @@ use Rattle.std.proofs.lemmas.Bool.{cases_eq}
 use Rattle.std.proofs.lemmas.Option.{get_or_from_slice_get, slice_get_read}
 use Rattle.std.proofs.lemmas.List.{length-append, get_or-set_same, get_or-set_other}
 use Rattle.std.proofs.lemmas.List.Elements.{Contains-append_left, Contains-push}
+use Rattle.cs_base.proofs.ListLemmas.{at_push, at_set_other, at_set_same}
 use Rattle.cs_base.specs.declared.formula.Lit.{Lit}
 use Rattle.cs_base.specs.declared.formula.Clause.{Clause}
 use Rattle.cs_rup.specs.declared.watch.Watch.{Watch}
 use Rattle.cs_rup.specs.declared.store.Store.{Store}
 use Rattle.cs_rup.specs.Settings.{Setting, HasPair, IsOpen}
 use Rattle.cs_rup.specs.Stores.{Lists, place_of, list_of, HasList, IsListed, AreListed, AreSame, ListsGrow, IsWatching, IsRewatchedAt, IsRewatched}
-
-pub at_push : {X : Type 0} (xs : List X) (y : X) (i : ℕ) (x : X) → slice_get (xs ++ y ∷ []) i ≡ Some x
-    → (slice_get xs i ≡ Some x) ⊎ ((i ≡ length xs) × (y ≡ x))
-at_push [] y zero x is = inr (refl, cc)
-at_push [] y (suc i) x is = cc
-at_push (z ∷ zs) y zero x is = inl is
-at_push (z ∷ zs) y (suc i) x is = elim (at_push zs y i x is) [
-  | inl before ↦ inl before
-  | inr last ↦ inr (ap suc last.0, last.1)
-]
-
-pub get_push : {X : Type 0} (xs : List X) (y : X) → slice_get (xs ++ y ∷ []) (length xs) ≡ Some y
-get_push [] y = refl
-get_push (x ∷ xs) y = get_push xs y
-
-pub get_push_before : {X : Type 0} (xs : List X) (y : X) (i : ℕ) (x : X) → slice_get xs i ≡ Some x
-    → slice_get (xs ++ y ∷ []) i ≡ Some x
-get_push_before [] y i x is = cc
-get_push_before (z ∷ zs) y zero x is = is
-get_push_before (z ∷ zs) y (suc i) x is = get_push_before zs y i x is
-
-pub get_set_same : {X : Type 0} (xs : List X) (i : ℕ) (y : X) → i < length xs → slice_get (slice_set xs i y) i ≡ Some y
-get_set_same [] i y within = absurd (omega arith)
-get_set_same (x ∷ xs) zero y within = refl
-get_set_same (x ∷ xs) (suc i) y within = get_set_same xs i y (omega arith)
-
-pub get_set_other : {X : Type 0} (xs : List X) (i j : ℕ) (y : X) → (j ≡ i → ⊥) → slice_get (slice_set xs i y) j ≡ slice_get xs j
-get_set_other [] i j y differ = refl
-get_set_other (x ∷ xs) zero zero y differ = absurd (differ refl)
-get_set_other (x ∷ xs) zero (suc j) y differ = refl
-get_set_other (x ∷ xs) (suc i) zero y differ = refl
-get_set_other (x ∷ xs) (suc i) (suc j) y differ = get_set_other xs i j y (λ is. differ (ap suc is))
 
 pub grow_same : (lists : Lists) → ListsGrow lists lists
 grow_same lists = record { count = refl; keeps = λ lit place has. has }
@@ -141,11 +110,11 @@ listed_set old new place watch listed within clauses watches grow has = record {
         | inl here ↦
             let set : slice_get (slice_set old.watches.items place watch) i ≡ Some watch =
             subst (λ j. slice_get (slice_set old.watches.items place watch) j ≡ Some watch) (sym here)
-            (get_set_same old.watches.items place watch within) in
+            (at_set_same old.watches.items place watch within) in
             let one : watch ≡ w = cc in
             subst (λ x. IsListed new.lists.items x i) one (subst (λ j. IsListed new.lists.items watch j) (sym here) has)
         | inr differ ↦ listed_grown_one old.lists.items new.lists.items w i grow
-            (listed.each i w (sym (get_set_other old.watches.items place i watch differ) ∙ at))
+            (listed.each i w (sym (at_set_other old.watches.items place i watch differ) ∙ at))
       ];
 }
 
@@ -160,7 +129,7 @@ listed_next old new watch listed clauses watches grow has = record {
   each = λ i w found.
       elim (at_push old.watches.items watch i w (subst (λ ws. slice_get ws i ≡ Some w) watches found)) [
         | inl before ↦ listed_grown_one old.lists.items new.lists.items w i grow (listed.each i w before)
-        | inr last ↦ subst (λ x. IsListed new.lists.items x i) last.1
+        | inr last ↦ subst (λ x. IsListed new.lists.items x i) (sym last.1)
             (subst (λ j. IsListed new.lists.items watch j) (sym last.0) has)
       ];
 }
@@ -226,10 +195,10 @@ pub rewatched_set : (s : Setting) (old new : Store) (place : ℕ) (watch : Watch
     → IsRewatchedAt s old new place lits
 rewatched_set s old new place watch lits within clauses watches pair = record {
   clauses = clauses;
-  others = λ i differ. ap (λ ws. slice_get ws i) watches ∙ get_set_other old.watches.items place i watch differ;
+  others = λ i differ. ap (λ ws. slice_get ws i) watches ∙ at_set_other old.watches.items place i watch differ;
   here = inr (record {
     watch = watch;
-    found = ap (λ ws. slice_get ws place) watches ∙ get_set_same old.watches.items place watch within;
+    found = ap (λ ws. slice_get ws place) watches ∙ at_set_same old.watches.items place watch within;
     pair = pair;
   });
 }

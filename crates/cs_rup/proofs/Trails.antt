@@ -4,6 +4,7 @@ use Rattle.std.specs.List.{Contains, slice_get}
 use Rattle.std.proofs.lemmas.Bool.{cases_lt}
 use Rattle.std.proofs.lemmas.Option.{slice_get_within, slice_get-get_or}
 use Rattle.std.proofs.lemmas.List.{length-append}
+use Rattle.cs_base.proofs.ListLemmas.{at_push, at_push_new, at_push_old}
 use Rattle.cs_base.specs.declared.formula.Lit.{Lit}
 use Rattle.cs_base.specs.declared.formula.Clause.{Clause}
 use Rattle.cs_base.specs.Derivations.{negated, IsSet, assumed, unit, MeetsConflict}
@@ -15,7 +16,7 @@ use Rattle.cs_rup.specs.Stores.{AreListed, list_of, IsWatched, AllWatched, Watch
 use Rattle.cs_rup.specs.Trails.{IsSound, Explains, StaysSound, ExplainsAny, set_by, Grows, IsUndone, IsReady, Waits, AllWait}
 use Rattle.cs_rup.proofs.Lists.{at_contains}
 use Rattle.cs_rup.proofs.Settings.{negated_twice, not_both, one_or_other}
-use Rattle.cs_rup.proofs.Stores.{at_push, get_push, get_push_before, watching_free, watching_kept, rewatched_same}
+use Rattle.cs_rup.proofs.Stores.{watching_free, watching_kept, rewatched_same}
 
 pub grows_same : (trail : Trail) → Grows trail trail
 grows_same trail = record {
@@ -54,20 +55,20 @@ pub grows_put : (old new : Trail) (lit : Lit) → set_by old lit.var ≡ None �
 grows_put old new lit none put stays alone = record {
   stays = stays;
   longer = omega (arith, ap length put, length-append old.lits.items (lit ∷ []));
-  places = λ i t found. subst (λ items. slice_get items i ≡ Some t) (sym put) (get_push_before old.lits.items lit i t found);
+  places = λ i t found. subst (λ items. slice_get items i ≡ Some t) (sym put) (at_push_old old.lits.items lit i t found);
   fresh = λ t is. elim (alone t is) [
     | inl before ↦ inl before
     | inr one ↦ inr (
       length old.lits.items,
       omega arith,
-      subst (λ items. slice_get items (length old.lits.items) ≡ Some t) (sym put) (get_push old.lits.items lit ∙ ap Some (sym one)),
+      subst (λ items. slice_get items (length old.lits.items) ≡ Some t) (sym put) (at_push_new old.lits.items lit ∙ ap Some (sym one)),
     )
   ];
   unset = λ i t later found u same is.
       elim (at_push old.lits.items lit i t (subst (λ items. slice_get items i ≡ Some t) put found)) [
         | inl before ↦ let within = slice_get_within old.lits.items i t before in absurd (omega arith)
         | inr last ↦
-            let here : u.var ≡ lit.var = same ∙ ap (λ l. l.var) (sym last.1) in
+            let here : u.var ≡ lit.var = same ∙ ap (λ l. l.var) last.1 in
             let value : set_by old u.var ≡ None = ap (set_by old) here ∙ none in
             let no : is_true (set_by old) u ≡ has_value None u.positive = ap (λ v. has_value v u.positive) value in
             cc
@@ -92,10 +93,10 @@ undone_more start old new lit before popped unset =
     let more : length old.lits.items ≡ length new.lits.items + 1 = ap length popped ∙ length-append new.lits.items (lit ∷ []) in
     let there : slice_get start.lits.items (length new.lits.items) ≡ Some lit =
     before.places (length new.lits.items) lit
-    (subst (λ items. slice_get items (length new.lits.items) ≡ Some lit) (sym popped) (get_push new.lits.items lit)) in
+    (subst (λ items. slice_get items (length new.lits.items) ≡ Some lit) (sym popped) (at_push_new new.lits.items lit)) in
     record {
       places = λ i t found. before.places i t
-          (subst (λ items. slice_get items i ≡ Some t) (sym popped) (get_push_before new.lits.items lit i t found));
+          (subst (λ items. slice_get items i ≡ Some t) (sym popped) (at_push_old new.lits.items lit i t found));
       stays = λ t is off. unset.stays t (before.stays t is (λ i other later found same. off i other (omega arith) found same))
           (λ same. off (length new.lits.items) lit (omega arith) there same);
       alone = λ t is.

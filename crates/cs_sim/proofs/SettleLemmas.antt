@@ -21,7 +21,7 @@ use Rattle.cs_net.specs.Pins.{count_from}
 use Rattle.cs_net.specs.Trace.{Row, Settles, Valuation, signal_value, value_by}
 use Rattle.cs_net.proofs.ElementGraphs.{input_owner, sources_of_element, vertex_count}
 use Rattle.cs_order.specs.Graphs.{IsOrder, StandsBefore, sources_of}
-use Rattle.cs_order.proofs.ListLemmas.{at_contains, contains_at}
+use Rattle.cs_base.proofs.ListLemmas.{at_contains, contains_at}
 use Rattle.cs_sim.specs.declared.layout.Part.{Part}
 use Rattle.cs_sim.specs.Clock.{HeldValues, evaluated, evaluated_at, output_bits, pins_at, settled, word_in, with_constants}
 use Rattle.cs_sim.specs.Layout.{address_slots, driven_signals, layout_of}

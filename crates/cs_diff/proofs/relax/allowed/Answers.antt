@@ -5,7 +5,7 @@ use Rattle.std.specs.List.{count_by}
 use Rattle.std.specs.Option.{option_map}
 use Rattle.std.proofs.lemmas.Int.{ints, to_z-of_z}
 use Rattle.std.proofs.lemmas.List.Sums.{count_by-le-length}
-use Rattle.cs_diff.specs.Ranges.{IsSmall}
+use Rattle.cs_base.specs.Ranges.{IsSmall}
 use Rattle.cs_diff.specs.Labels.{at, Labels, gap, AreInRange}
 use Rattle.cs_diff.proofs.relax.allowed.Goals as goal
 

@@ -2,7 +2,7 @@
 use Rattle.std.proofs.Common.{arith, below_more}
 use Rattle.cs_order.specs.Graphs.{IsOrder, IsLoop}
 use Rattle.cs_order.specs.Searches.{IsSeen}
-use Rattle.cs_order.proofs.ListLemmas.{at_contains}
+use Rattle.cs_base.proofs.ListLemmas.{at_contains}
 use Rattle.cs_order.proofs.CallerLemmas.{order_no_loop}
 use Rattle.cs_order.proofs.SearchLemmas.{loop_from, ended}
 use Rattle.cs_order.proofs.topological.arrange.Goals as goal

@@ -1,7 +1,7 @@
 -- The root is entered.
 use Rattle.std.proofs.Common.{◌<◌, length, arith}
 use Rattle.cs_order.specs.declared.state.State.TheVariants.{Unseen, Open}
-use Rattle.cs_order.proofs.ListLemmas.{at_set_same}
+use Rattle.cs_base.proofs.ListLemmas.{at_set_same}
 use Rattle.cs_order.proofs.SearchLemmas.{entered, seen_stay, leads_nowhere}
 use Rattle.cs_order.proofs.search.Search.visit.Goals as goal
 

@@ -1,8 +1,9 @@
 -- Both literals' lists have the place behind the others.
 use Rattle.std.proofs.Common.{◌≡◌, [], ◌∷◌, ◌++◌, length, Some, rules, sym, subst, ap, ◌∙◌}
 use Rattle.std.specs.List.{slice_get}
+use Rattle.cs_base.proofs.ListLemmas.{at_push_old}
 use Rattle.cs_rup.specs.Stores.{IsListed}
-use Rattle.cs_rup.proofs.Stores.{grow_more, get_push_before, listed_next}
+use Rattle.cs_rup.proofs.Stores.{grow_more, listed_next}
 use Rattle.cs_rup.proofs.store.Store.watch_next.Goals as goal
 
 pub returns-clause-listed : goal.returns-clause-listed
@@ -19,5 +20,5 @@ returns-clause-listed c =
 pub returns-clause-kept : goal.returns-clause-kept
 returns-clause-kept c place watch found =
     subst (λ ws. slice_get ws place ≡ Some watch) (sym c.in_ok-push.ensures.items)
-    (get_push_before c.put-2.new.self.watches.items c.args.watch place watch
+    (at_push_old c.put-2.new.self.watches.items c.args.watch place watch
     (subst (λ ws. slice_get ws place ≡ Some watch) (sym (c.put-2.ensures.same.watches ∙ c.put.ensures.same.watches)) found))

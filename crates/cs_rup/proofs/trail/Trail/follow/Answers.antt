@@ -3,7 +3,8 @@ use Rattle.std.proofs.Common.{◌<◌, length, inr, arith, subst, ap, ◌∙◌}
 use Rattle.std.specs.List.{slice_get}
 use Rattle.cs_rup.specs.Settings.{Asks}
 use Rattle.cs_rup.specs.Trails.{set_by}
-use Rattle.cs_rup.proofs.Stores.{get_set_same, rewatched_set}
+use Rattle.cs_base.proofs.ListLemmas.{at_set_same}
+use Rattle.cs_rup.proofs.Stores.{rewatched_set}
 use Rattle.cs_rup.proofs.Trails.{grows_same, unit_sound}
 use Rattle.cs_rup.proofs.trail.Trail.follow.Goals as goal
 
@@ -36,7 +37,7 @@ returns-in_ok-rewatch-in-Open-clause-watched c lits asks =
     inr (record {
       watch = c.in-Open.watch;
       found = ap (λ ws. slice_get ws c.args.place) c.in_ok-rewatch-in-Open.ensures.ok
-          ∙ get_set_same c.args.store.now.watches.items c.args.place c.in-Open.watch within;
+          ∙ at_set_same c.args.store.now.watches.items c.args.place c.in-Open.watch within;
       pair = subst (Asks (set_by c.args.self.now) lits) c.in-Open.is asks;
     })
 
