@@ -14,16 +14,18 @@ use Rattle.cs_cells.specs.Gates.{pin_count, pin_name}
 use Rattle.cs_net.specs.declared.netlist.Cell.{Cell}
 use Rattle.cs_net.specs.declared.netlist.Port.{Port}
 use Rattle.cs_net.specs.Netlist.{Net, bit_at}
-use Rattle.cs_net.specs.Drivers.{driver_of, data_inputs, gate, is_bit, is_clock, signal_of}
+use Rattle.cs_modules.specs.Signals.{is_bit, number_in}
+use Rattle.cs_net.specs.Drivers.{driver_of, data_inputs, gate, is_clock, signal_of}
 use Rattle.cs_net.specs.Invariant.{IsWellFormed}
 use Rattle.cs_net.specs.Isolates.{DataPort, is_clock_port, data_port, data_ports}
-use Rattle.cs_net.specs.Pins.{count_from}
-use Rattle.cs_net.specs.Places.{place_of}
-use Rattle.cs_net.specs.Conditions.{input_bits_in, duplicates, number_in}
+use Rattle.cs_modules.specs.Pins.{count_from}
+use Rattle.cs_modules.specs.Places.{place_of}
+use Rattle.cs_conditions.specs.Conditions.{duplicates}
+use Rattle.cs_modules.specs.Modules.{input_bits_in}
 use Rattle.cs_net.specs.Build.{net_of, port_of}
 use Rattle.cs_net.proofs.PlainNets.{driver_of-logic, driver_by, cell_that_drives, output_by, output_of}
 use Rattle.cs_net.proofs.Orders.{no_loop_of_order}
-use Rattle.cs_net.proofs.TopModule.{only_top}
+use Rattle.cs_modules.proofs.TopModule.{only_top}
 use Rattle.cs_multiply.specs.declared.circuit.Circuit.{Circuit}
 use Rattle.cs_multiply.specs.declared.circuit.RegisterPart.{RegisterPart}
 use Rattle.cs_multiply.specs.Circuits.{no_register, register_bit, register_at, circuit_module, circuit_document}

@@ -11,7 +11,7 @@ use Rattle.cs_cells.specs.declared.register.FfKind.{FfKind}
 use Rattle.cs_cells.specs.declared.class.Class.TheVariants.{Gate, Register}
 use Rattle.cs_cells.specs.Classes.{class_of}
 use Rattle.cs_cells.specs.Gates.{pin_count, pin_name}
-use Rattle.cs_net.specs.Pins.{class_at, count_from, gate_widths, has_pins, has_sizes, widths_of}
+use Rattle.cs_modules.specs.Pins.{class_at, count_from, gate_widths, has_pins, has_sizes, widths_of}
 use Rattle.cs_net.proofs.Members.{append_all}
 use Rattle.cs_multiply.specs.declared.circuit.Circuit.{Circuit}
 use Rattle.cs_multiply.specs.declared.circuit.GatePart.{GatePart}

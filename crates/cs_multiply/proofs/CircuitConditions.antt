@@ -10,13 +10,15 @@ use Rattle.cs_json.specs.declared.document.Module.{Module}
 use Rattle.cs_json.specs.declared.document.PortDecl.{PortDecl}
 use Rattle.cs_json.specs.declared.document.CellDecl.{CellDecl}
 use Rattle.cs_cells.specs.Gates.{pin_count}
-use Rattle.cs_net.specs.declared.error.NetError.{NetError}
-use Rattle.cs_net.specs.declared.error.NetError.TheVariants.{ConstZ, TwoDrivers, ClockNotInput, TwoStarts, Reserved}
-use Rattle.cs_net.specs.declared.netlist.Clock.{Clock}
-use Rattle.cs_net.specs.Digits.{init_digit, digits_at}
-use Rattle.cs_net.specs.Drivers.{is_bit, is_clock, is_output}
-use Rattle.cs_net.specs.Pins.{class_at, count_from, pin_bits, Connection}
-use Rattle.cs_net.specs.Conditions.{cells_of, inout, is_inout, const_z, or_else, is_open_output, is_high_z, input_bits, output_bits, output_bits_in, driven_signals, number_in, least, duplicates, two_drivers, ClockPin, clock_pin, clock_pins, is_open_input, is_bit_of, clock_not_input, first_clock, clock_of, of_clock, two_clocks, same, mixed_edges, clock_as_data, reads_as_data, connections_of, is_register, register_bits, init_values_in, init_values, has_two_starts, two_starts, early_refusal, is_reserved, reserved}
+use Rattle.cs_conditions.specs.declared.error.NetError.{NetError}
+use Rattle.cs_conditions.specs.declared.error.NetError.TheVariants.{ConstZ, TwoDrivers, ClockNotInput, TwoStarts, Reserved}
+use Rattle.cs_modules.specs.declared.clocks.Clock.{Clock}
+use Rattle.cs_modules.specs.Digits.{init_digit, digits_at}
+use Rattle.cs_modules.specs.Signals.{is_bit, is_output, is_high_z, number_in, is_bit_of, same}
+use Rattle.cs_net.specs.Drivers.{is_clock}
+use Rattle.cs_modules.specs.Pins.{class_at, count_from, pin_bits, Connection}
+use Rattle.cs_conditions.specs.Conditions.{inout, is_inout, const_z, or_else, is_open_output, least, duplicates, two_drivers, is_open_input, clock_not_input, of_clock, two_clocks, mixed_edges, clock_as_data, has_two_starts, two_starts, early_refusal, is_reserved, reserved}
+use Rattle.cs_modules.specs.Modules.{cells_of, input_bits, output_bits, output_bits_in, driven_signals, ClockPin, clock_pin, clock_pins, first_clock, clock_of, reads_as_data, connections_of, is_register, register_bits, init_values_in, init_values}
 use Rattle.cs_net.proofs.LogicModules.{IsLogicCell, no_unknown, none_coarse, no_asynchronous, no_misformed}
 use Rattle.cs_net.proofs.Members.{append_all}
 use Rattle.cs_multiply.specs.declared.circuit.Circuit.{Circuit}

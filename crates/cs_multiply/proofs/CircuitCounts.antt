@@ -12,11 +12,12 @@ use Rattle.cs_cells.specs.declared.class.Class.{Class}
 use Rattle.cs_cells.specs.declared.class.Class.TheVariants.{Gate, Register, Memory, Scope, Asynchronous, NotFine, Unknown as UnknownClass}
 use Rattle.cs_net.specs.declared.netlist.Cell.{Cell}
 use Rattle.cs_net.specs.declared.netlist.Port.{Port}
-use Rattle.cs_net.specs.Drivers.{is_bit, is_input, is_output, signal_of}
-use Rattle.cs_net.specs.Pins.{count_from}
-use Rattle.cs_net.specs.Places.{place_of}
+use Rattle.cs_modules.specs.Signals.{is_bit, is_input, is_output, number_in}
+use Rattle.cs_net.specs.Drivers.{signal_of}
+use Rattle.cs_modules.specs.Pins.{count_from}
+use Rattle.cs_modules.specs.Places.{place_of}
 use Rattle.std.proofs.lemmas.List.Elements.{filter_map-append}
-use Rattle.cs_net.specs.Conditions.{number_in, duplicates}
+use Rattle.cs_conditions.specs.Conditions.{duplicates}
 use Rattle.cs_multiply.specs.Written.{gate_kind, gate_output, is_register}
 use Rattle.cs_multiply.proofs.FineModules.{list_any-append}
 use Rattle.cs_multiply.proofs.CircuitConditions.{once_later}

@@ -7,10 +7,12 @@ use Rattle.cs_base.specs.declared.signal.Signal.TheVariants.{Zero, Bit}
 use Rattle.cs_json.specs.declared.document.PortDecl.{PortDecl}
 use Rattle.cs_json.specs.Readable.{AreInOrder, is_readable_signal}
 use Rattle.cs_cells.specs.Gates.{pin_count}
-use Rattle.cs_net.specs.declared.netlist.Clock.{Clock}
-use Rattle.cs_net.specs.Drivers.{is_bit, is_clock}
-use Rattle.cs_net.specs.Pins.{count_from}
-use Rattle.cs_net.specs.Conditions.{input_bits_in, output_bits_in, is_high_z, is_inout, is_reserved}
+use Rattle.cs_modules.specs.declared.clocks.Clock.{Clock}
+use Rattle.cs_modules.specs.Signals.{is_bit, is_high_z}
+use Rattle.cs_net.specs.Drivers.{is_clock}
+use Rattle.cs_modules.specs.Pins.{count_from}
+use Rattle.cs_conditions.specs.Conditions.{is_inout, is_reserved}
+use Rattle.cs_modules.specs.Modules.{input_bits_in, output_bits_in}
 use Rattle.cs_multiply.specs.declared.circuit.Circuit.{Circuit}
 use Rattle.cs_multiply.specs.declared.circuit.GatePart.{GatePart}
 use Rattle.cs_multiply.specs.declared.circuit.RegisterPart.{RegisterPart}

@@ -16,12 +16,14 @@ use Rattle.cs_cells.specs.declared.class.Class.TheVariants.{Gate, Register, Memo
 use Rattle.cs_cells.specs.Gates.{pin_count, pin_name}
 use Rattle.cs_net.specs.declared.state.BitValue.{BitValue}
 use Rattle.cs_net.specs.Netlist.{bit_at}
-use Rattle.cs_net.specs.Drivers.{gate, driver_of, data_inputs, data_outputs, register_of, signal_of, is_bit, is_clock, is_input, is_output, memory_read_starts, fanin, holds_bit}
+use Rattle.cs_modules.specs.Signals.{is_bit, is_input, is_output, holds_bit, number_in}
+use Rattle.cs_net.specs.Drivers.{gate, driver_of, data_inputs, data_outputs, register_of, signal_of, is_clock, memory_read_starts, fanin}
 use Rattle.cs_net.specs.Invariant.{HasOrder}
-use Rattle.cs_net.specs.Pins.{class_at, count_from}
-use Rattle.cs_net.specs.Places.{place_of}
-use Rattle.cs_net.specs.Conditions.{input_bits_in, output_bits_in, number_in, initial_value, init_values}
-use Rattle.cs_net.specs.Build.{net_of, cell_of, shape_of, shape_by, starts_by}
+use Rattle.cs_modules.specs.Pins.{class_at, count_from}
+use Rattle.cs_modules.specs.Places.{place_of}
+use Rattle.cs_modules.specs.Modules.{input_bits_in, output_bits_in, initial_value, init_values}
+use Rattle.cs_modules.specs.Memories.{shape_of, shape_by}
+use Rattle.cs_net.specs.Build.{net_of, cell_of, starts_by}
 use Rattle.cs_net.proofs.PinLemmas.{same_port_bits, same_bits}
 use Rattle.cs_net.proofs.PlainNets.{IsLogicNet, driver_of-logic, driver_by, drive_of, drive_by, cell_that_drives, output_of, output_by}
 use Rattle.cs_net.proofs.LogicModules.{is_logic_net}

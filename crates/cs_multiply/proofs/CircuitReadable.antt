@@ -14,9 +14,10 @@ use Rattle.cs_json.specs.declared.document.Direction.TheVariants.{Input, Output,
 use Rattle.cs_json.specs.Shape.{is_bit_number}
 use Rattle.cs_json.specs.Readable.{IsReadable, IsModule, IsCell, IsNet, IsPort, AreEntries, AreReadable, AreInOrder, is_readable_signal, is_input as is_input_port, is_below}
 use Rattle.cs_cells.specs.Gates.{pin_count, pin_name}
-use Rattle.cs_net.specs.Drivers.{is_input, is_output}
-use Rattle.cs_net.specs.Pins.{count_from}
-use Rattle.cs_net.specs.Conditions.{input_bits_in, output_bits_in, is_inout}
+use Rattle.cs_modules.specs.Signals.{is_input, is_output}
+use Rattle.cs_modules.specs.Pins.{count_from}
+use Rattle.cs_conditions.specs.Conditions.{is_inout}
+use Rattle.cs_modules.specs.Modules.{input_bits_in, output_bits_in}
 use Rattle.cs_net.proofs.Members.{append_all}
 use Rattle.cs_multiply.specs.declared.circuit.Circuit.{Circuit}
 use Rattle.cs_multiply.specs.Circuits.{input_count, gate_bit, register_bit, gate_at, gate_cell, gate_cells, register_cell, register_cells, register_net, pin, origin_entries, clock_signal, circuit_module, circuit_document}

@@ -7,7 +7,7 @@ use Rattle.std.proofs.lemmas.Cmp.{nat_list_cmp_total, tied_itself}
 use Rattle.std.proofs.lemmas.Slice.Eq.{bytes_eq-Decides}
 use Rattle.cs_json.specs.declared.document.PinDecl.{PinDecl}
 use Rattle.cs_json.specs.Readable.{is_below, AreInOrder}
-use Rattle.cs_net.specs.Pins.{Widths, is_pin_of, has_pin, has_pins}
+use Rattle.cs_modules.specs.Pins.{Widths, is_pin_of, has_pin, has_pins}
 
 -- ---- names
 

@@ -11,7 +11,7 @@ use Rattle.cs_base.specs.declared.limit.Counted.TheVariants.{Cells}
 use Rattle.cs_base.specs.declared.limit.LimitFault.{LimitFault}
 use Rattle.cs_multiply.specs.declared.error.MultiplyError.{MultiplyError}
 use Rattle.cs_net.specs.Accept.{limit_fault}
-use Rattle.cs_net.specs.Conditions.{or_else}
+use Rattle.cs_conditions.specs.Conditions.{or_else}
 use Rattle.cs_net.specs.Invariant.{IsWellFormed}
 use Rattle.cs_multiply.specs.declared.error.MultiplyError.TheVariants.{Cell as OtherCell, PortBits}
 use Rattle.cs_multiply.specs.Circuits.{input_count}

@@ -12,11 +12,10 @@ use Rattle.cs_cells.specs.declared.gate.Kind.{Kind}
 use Rattle.cs_cells.specs.declared.class.Class.{Class}
 use Rattle.cs_cells.specs.declared.class.Class.TheVariants.{Gate, Register, Memory, Scope, Asynchronous, NotFine, Unknown}
 use Rattle.cs_cells.specs.Gates.{pin_count, pin_name}
-use Rattle.cs_net.specs.declared.connection.Role.{Role}
-use Rattle.cs_net.specs.declared.connection.Role.TheVariants.{Data, Clock, Output}
-use Rattle.cs_net.specs.Pins.{Widths, class_at, pin_bits, has_pin, has_pins, is_pin_of, width_at, role_of, count_from, Connection, pin_connections, cell_connections, gate_role}
-use Rattle.cs_net.specs.Conditions.{has_right_pins}
-use Rattle.cs_net.proofs.GatePins.{inputs_are_not_y}
+use Rattle.cs_modules.specs.declared.connection.Role.{Role}
+use Rattle.cs_modules.specs.declared.connection.Role.TheVariants.{Data, Clock, Output}
+use Rattle.cs_modules.specs.Pins.{Widths, class_at, pin_bits, has_pin, has_pins, is_pin_of, width_at, role_of, count_from, Connection, pin_connections, cell_connections, gate_role, has_right_pins}
+use Rattle.cs_modules.proofs.GatePins.{inputs_are_not_y}
 use Rattle.cs_multiply.specs.Written.{is_plain}
 use Rattle.cs_multiply.proofs.ExactPins.{same_name, never_below_itself}
 use Rattle.cs_multiply.proofs.PinNames.{gate_names}

@@ -10,9 +10,10 @@ use Rattle.cs_json.specs.declared.document.Module.{Module}
 use Rattle.cs_json.specs.declared.document.CellDecl.{CellDecl}
 use Rattle.cs_cells.specs.declared.class.Class.{Class}
 use Rattle.cs_cells.specs.declared.class.Class.TheVariants.{Gate, Register, Memory, Scope, Asynchronous, NotFine, Unknown}
-use Rattle.cs_net.specs.Drivers.{is_bit}
-use Rattle.cs_net.specs.Pins.{class_at, Connection, cell_connections, connections}
-use Rattle.cs_net.specs.Conditions.{cells_of, cells_in, has_right_pins, bad_pins, is_open_input, is_high_z, input_bits, driven_signals, is_cell_output, ClockPin, clock_pin, clock_pins, reads_as_data, connections_of}
+use Rattle.cs_modules.specs.Signals.{is_bit, is_high_z}
+use Rattle.cs_modules.specs.Pins.{class_at, Connection, cell_connections, connections, has_right_pins}
+use Rattle.cs_conditions.specs.Conditions.{bad_pins, is_open_input}
+use Rattle.cs_modules.specs.Modules.{cells_of, cells_in, input_bits, driven_signals, is_cell_output, ClockPin, clock_pin, clock_pins, reads_as_data, connections_of}
 use Rattle.cs_net.proofs.PlainNets.{is_logic}
 use Rattle.cs_net.proofs.LogicModules.{IsLogicCell, all_count}
 use Rattle.cs_multiply.specs.Written.{is_plain}

@@ -13,14 +13,16 @@ use Rattle.cs_cells.specs.declared.class.Class.{Class}
 use Rattle.cs_cells.specs.declared.class.Class.TheVariants.{Gate, Register, Memory, Scope, Asynchronous, NotFine, Unknown as UnknownClass}
 use Rattle.cs_cells.specs.Gates.{pin_count, pin_name}
 use Rattle.cs_net.specs.declared.netlist.Cell.{Cell}
-use Rattle.cs_net.specs.declared.netlist.Clock.{Clock}
+use Rattle.cs_modules.specs.declared.clocks.Clock.{Clock}
 use Rattle.cs_net.specs.declared.netlist.Port.{Port}
 use Rattle.cs_net.specs.Netlist.{Net}
-use Rattle.cs_net.specs.Drivers.{fanin, holds_bit, is_bit, is_clock, signal_of, data_outputs}
-use Rattle.cs_net.specs.Pins.{count_from}
-use Rattle.cs_net.specs.Places.{place_of}
+use Rattle.cs_modules.specs.Signals.{holds_bit, is_bit, number_in}
+use Rattle.cs_net.specs.Drivers.{fanin, is_clock, signal_of, data_outputs}
+use Rattle.cs_modules.specs.Pins.{count_from}
+use Rattle.cs_modules.specs.Places.{place_of}
 use Rattle.cs_net.proofs.PlainNets.{output_of}
-use Rattle.cs_net.specs.Conditions.{input_bits_in, output_bits_in, number_in, duplicates, is_inout, is_reserved, holds_clock}
+use Rattle.cs_conditions.specs.Conditions.{duplicates, is_inout, is_reserved, holds_clock}
+use Rattle.cs_modules.specs.Modules.{input_bits_in, output_bits_in}
 use Rattle.cs_multiply.specs.declared.circuit.Circuit.{Circuit}
 use Rattle.cs_multiply.specs.declared.circuit.GatePart.{GatePart}
 use Rattle.cs_multiply.specs.declared.circuit.RegisterPart.{RegisterPart}

@@ -16,16 +16,19 @@ use Rattle.cs_cells.specs.declared.class.Class.TheVariants.{Gate, Register, Memo
 use Rattle.cs_cells.specs.declared.gate.Kind.{Kind}
 use Rattle.cs_cells.specs.declared.register.FfKind.{FfKind}
 use Rattle.cs_cells.specs.Gates.{pin_count, pin_name}
-use Rattle.cs_net.specs.declared.error.NetError.{NetError}
+use Rattle.cs_conditions.specs.declared.error.NetError.{NetError}
 use Rattle.cs_net.specs.declared.netlist.Cell.{Cell}
-use Rattle.cs_net.specs.declared.netlist.Clock.{Clock}
+use Rattle.cs_modules.specs.declared.clocks.Clock.{Clock}
 use Rattle.cs_net.specs.declared.netlist.Port.{Port}
 use Rattle.cs_net.specs.Netlist.{Net}
-use Rattle.cs_net.specs.Drivers.{is_bit, is_input, is_output, signal_of, data_outputs, memory_read_starts}
-use Rattle.cs_net.specs.Pins.{Widths, class_at, count_from, gate_widths, register_widths, has_pins, has_sizes, widths_of}
-use Rattle.cs_net.specs.Places.{place_of}
-use Rattle.cs_net.specs.Conditions.{or_else, error_if, cells_of, is_scope, has_right_pins, bad_pins, inout, is_inout, input_bits, output_bits, number_in, least, duplicates, two_drivers, ClockPin, clock_pin, clock_pins, is_bit_of, clock_not_input, first_clock, clock_of, of_clock, clock_as_data, reads_as_data, connections_of, unknown_cell, not_fine, asynchronous, const_z, two_clocks, mixed_edges, early_refusal, is_reserved, reserved}
-use Rattle.cs_net.specs.Build.{net_of, port_of, cell_of, shape_of}
+use Rattle.cs_modules.specs.Signals.{is_bit, is_input, is_output, number_in, is_bit_of}
+use Rattle.cs_net.specs.Drivers.{signal_of, data_outputs, memory_read_starts}
+use Rattle.cs_modules.specs.Pins.{Widths, class_at, count_from, gate_widths, register_widths, has_pins, has_sizes, widths_of, has_right_pins}
+use Rattle.cs_modules.specs.Places.{place_of}
+use Rattle.cs_conditions.specs.Conditions.{or_else, error_if, bad_pins, inout, is_inout, least, duplicates, two_drivers, clock_not_input, of_clock, clock_as_data, unknown_cell, not_fine, asynchronous, const_z, two_clocks, mixed_edges, early_refusal, is_reserved, reserved}
+use Rattle.cs_modules.specs.Modules.{cells_of, is_scope, input_bits, output_bits, ClockPin, clock_pin, clock_pins, first_clock, clock_of, reads_as_data, connections_of}
+use Rattle.cs_modules.specs.Memories.{shape_of}
+use Rattle.cs_net.specs.Build.{net_of, port_of, cell_of}
 use Rattle.cs_net.specs.Invariant.{HasOrder, IsWellFormed}
 use Rattle.std.proofs.lemmas.List.{length-map}
 use Rattle.cs_net.proofs.Members.{append_all}

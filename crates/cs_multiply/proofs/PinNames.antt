@@ -8,7 +8,7 @@ use Rattle.cs_cells.specs.declared.gate.Kind.TheVariants.{Buf, Not, And, Nand, O
 use Rattle.cs_cells.specs.declared.class.Class.TheVariants.{Gate}
 use Rattle.cs_cells.specs.Classes.{class_of}
 use Rattle.cs_cells.specs.Gates.{row_of, pin_count, pin_name}
-use Rattle.cs_net.specs.Pins.{count_from, gate_widths}
+use Rattle.cs_modules.specs.Pins.{count_from, gate_widths}
 use Rattle.cs_multiply.proofs.ExactPins.{both}
 
 -- input pins, and then Y

@@ -4,7 +4,7 @@ use Rattle.std.specs.Prelude.{find, filter}
 use Rattle.std.specs.List.{AllByRecursion, position_from}
 use Rattle.cs_base.specs.declared.signal.Signal.{Signal}
 use Rattle.cs_base.specs.declared.signal.Signal.TheVariants.{Zero, One, Unknown, HighZ, Bit}
-use Rattle.cs_net.specs.Drivers.{is_bit}
+use Rattle.cs_modules.specs.Signals.{is_bit}
 
 -- ---- a place
 

@@ -11,9 +11,10 @@ use Rattle.cs_cells.specs.declared.class.Class.TheVariants.{Gate, Register, Memo
 use Rattle.cs_cells.specs.Gates.{pin_count, pin_name}
 use Rattle.cs_net.specs.declared.netlist.Cell.{Cell}
 use Rattle.cs_net.specs.Netlist.{Net}
-use Rattle.cs_net.specs.Drivers.{driver_of, gate, register_of, signal_of, is_bit, is_clock}
-use Rattle.cs_net.specs.Pins.{count_from}
-use Rattle.cs_net.specs.Conditions.{number_in, duplicates}
+use Rattle.cs_modules.specs.Signals.{is_bit, number_in}
+use Rattle.cs_net.specs.Drivers.{driver_of, gate, register_of, signal_of, is_clock}
+use Rattle.cs_modules.specs.Pins.{count_from}
+use Rattle.cs_conditions.specs.Conditions.{duplicates}
 use Rattle.cs_net.proofs.PlainNets.{IsLogicNet, AreLogic, driver_of-logic, driver_by, drive_of, drive_by, cell_that_drives, output_of, output_by}
 use Rattle.cs_multiply.specs.declared.circuit.GatePart.{GatePart}
 use Rattle.cs_multiply.specs.Multiplies.{IsPlainRegister}

@@ -6,11 +6,12 @@ use Rattle.cs_base.specs.declared.signal.Signal.{Signal}
 use Rattle.cs_base.specs.declared.signal.Signal.TheVariants.{Zero, One, Unknown, HighZ, Bit}
 use Rattle.cs_net.specs.declared.netlist.Port.{Port}
 use Rattle.cs_net.specs.Netlist.{Net}
-use Rattle.cs_net.specs.Places.{place_of}
+use Rattle.cs_modules.specs.Places.{place_of}
 use Rattle.cs_json.specs.declared.document.PortDecl.{PortDecl}
-use Rattle.cs_net.specs.Drivers.{is_bit, is_input, is_output}
-use Rattle.cs_net.specs.Pins.{count_from}
-use Rattle.cs_net.specs.Conditions.{input_bits_in, output_bits_in, number_in, duplicates, is_high_z}
+use Rattle.cs_modules.specs.Signals.{is_bit, is_input, is_output, number_in, is_high_z}
+use Rattle.cs_modules.specs.Pins.{count_from}
+use Rattle.cs_conditions.specs.Conditions.{duplicates}
+use Rattle.cs_modules.specs.Modules.{input_bits_in, output_bits_in}
 use Rattle.cs_multiply.specs.Written.{gate_outputs, register_outputs, port_inputs, wire_by, written_signal, written_port, gate_number, register_number}
 use Rattle.cs_multiply.proofs.NetFacts.{IsBit}
 use Rattle.cs_multiply.proofs.CircuitConditions.{once_later}

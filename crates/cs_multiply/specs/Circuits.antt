@@ -14,9 +14,9 @@ use Rattle.cs_json.specs.declared.document.Entry.{Entry}
 use Rattle.cs_json.specs.declared.document.Datum.TheVariants.{Digits}
 use Rattle.cs_cells.specs.declared.gate.Kind.TheVariants.{Buf}
 use Rattle.cs_cells.specs.Gates.{row_of, pin_count, pin_name}
-use Rattle.cs_net.specs.declared.netlist.Clock.{Clock}
-use Rattle.cs_net.specs.Pins.{count_from}
-use Rattle.cs_net.specs.Conditions.{input_bits_in}
+use Rattle.cs_modules.specs.declared.clocks.Clock.{Clock}
+use Rattle.cs_modules.specs.Pins.{count_from}
+use Rattle.cs_modules.specs.Modules.{input_bits_in}
 use Rattle.cs_multiply.specs.declared.circuit.Circuit.{Circuit}
 use Rattle.cs_multiply.specs.declared.circuit.GatePart.{GatePart}
 use Rattle.cs_multiply.specs.declared.circuit.RegisterPart.{RegisterPart}

@@ -10,13 +10,14 @@ use Rattle.cs_cells.specs.declared.class.Class.{Class}
 use Rattle.cs_cells.specs.declared.class.Class.TheVariants.{Gate, Register}
 use Rattle.cs_cells.specs.Gates.{pin_count, pin_name}
 use Rattle.cs_net.specs.declared.netlist.Cell.{Cell}
-use Rattle.cs_net.specs.declared.netlist.Clock.{Clock}
+use Rattle.cs_modules.specs.declared.clocks.Clock.{Clock}
 use Rattle.cs_net.specs.declared.netlist.Port.{Port}
 use Rattle.cs_net.specs.Netlist.{Net, bit_at}
-use Rattle.cs_net.specs.Drivers.{signal_of, is_input, data_inputs, data_outputs}
-use Rattle.cs_net.specs.Pins.{count_from}
-use Rattle.cs_net.specs.Places.{place_of}
-use Rattle.cs_net.specs.Conditions.{number_in, or_else}
+use Rattle.cs_modules.specs.Signals.{is_input, number_in}
+use Rattle.cs_net.specs.Drivers.{signal_of, data_inputs, data_outputs}
+use Rattle.cs_modules.specs.Pins.{count_from}
+use Rattle.cs_modules.specs.Places.{place_of}
+use Rattle.cs_conditions.specs.Conditions.{or_else}
 use Rattle.cs_multiply.specs.declared.error.MultiplyError.{MultiplyError}
 use Rattle.cs_multiply.specs.declared.error.MultiplyError.TheVariants.{Cell as OtherCell, PortBits}
 use Rattle.cs_multiply.specs.declared.circuit.Circuit.{Circuit}

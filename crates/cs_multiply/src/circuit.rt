@@ -2,7 +2,7 @@
 use cs_base::{Sequence, Signal, Text};
 use cs_cells::Kind;
 use cs_json::PortDecl;
-use cs_net::Clock;
+use cs_modules::Clock;
 
 /// A gate: the name of the cell that it came from, and what its input pins read.
 #[derive(Drop)]

@@ -1,14 +1,14 @@
 // The document of a circuit.
 ghost use Rattle.std.specs.Prelude.{◌≡◌, ◌+◌, ◌<◌, ◌^◌, ◌++◌, [], ◌∷◌, All, IfOk, OnOk, codes, if◌then◌else◌, length, map};
 ghost use Rattle.cs_base.specs.declared.signal.Signal.TheVariants.{Bit};
-ghost use Rattle.cs_net.specs.Conditions.{input_bits_in};
+ghost use Rattle.cs_modules.specs.Modules.{input_bits_in};
 ghost use Rattle.cs_multiply.specs.Circuits.{circuit_document, circuit_module, clock_signal, digit_text, gate_bit, gate_cell, gate_cells, gate_pins, input_count, is_rising, numbered, origin_entries, pin, register_bit, register_cell, register_net, text_entry};
 
 use crate::circuit::{Circuit, GatePart};
 use crate::numbering::places_by_name;
 use cs_base::{BitId, Sequence, Signal, Text};
 use cs_json::{CellDecl, Datum, Direction, Document, Entry, Module, NetDecl, PinDecl, PortDecl};
-use cs_net::Clock;
+use cs_modules::Clock;
 use std::alloc::{AllocError, Global};
 
 const TOP_MARK: &str = "00000000000000000000000000000001";

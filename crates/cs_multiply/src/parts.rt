@@ -1,12 +1,14 @@
 // What the cells of a netlist drive and read, in order.
 ghost use Rattle.std.specs.Prelude.{◌≡◌, IfOk, filter, filter_map, flat_map, map, not, option_map};
-ghost use Rattle.cs_net.specs.Drivers.{is_clock, is_input, is_output, signal_of};
+ghost use Rattle.cs_modules.specs.Signals.{is_input, is_output};
+ghost use Rattle.cs_net.specs.Drivers.{is_clock, signal_of};
 ghost use Rattle.cs_multiply.specs.Written.{gate_kind, gate_output, is_plain, is_register};
 
 use cs_base::Signal;
 use cs_cells::{Class, Kind};
 use cs_json::Direction;
-use cs_net::{Cell, Clock, Port};
+use cs_modules::Clock;
+use cs_net::{Cell, Port};
 use std::alloc::{AllocError, Global};
 
 /// The bits of the input ports, port by port.

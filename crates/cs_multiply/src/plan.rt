@@ -2,7 +2,7 @@
 ghost use Rattle.std.specs.Prelude.{◌≡◌, ◌+◌, ◌*◌, ◌<◌, IfOk, filter_map, length, map, true};
 ghost use Rattle.cs_cells.specs.Gates.{pin_count, pin_name};
 ghost use Rattle.cs_net.specs.Drivers.{data_inputs, data_outputs, signal_of};
-ghost use Rattle.cs_net.specs.Pins.{count_from};
+ghost use Rattle.cs_modules.specs.Pins.{count_from};
 ghost use Rattle.cs_multiply.specs.Written.{can_multiply, multiplied, register_outputs, register_sources, register_starts, stage, start_at, written_clock, written_gate, written_port, written_signal};
 
 use crate::circuit::{Circuit, GatePart, RegisterPart};
@@ -11,7 +11,8 @@ use crate::wiring::Wiring;
 use cs_base::{Contexts, Sequence, Signal};
 use cs_cells::Kind;
 use cs_json::PortDecl;
-use cs_net::{Cell, Clock, Netlist, Port};
+use cs_modules::Clock;
+use cs_net::{Cell, Netlist, Port};
 use std::alloc::{AllocError, Global};
 
 fn start_at(net: &Netlist, output: Signal) -> bool

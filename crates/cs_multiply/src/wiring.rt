@@ -1,12 +1,13 @@
 // Where each bit of a netlist stands in the circuit that is written.
 ghost use Rattle.std.specs.Prelude.{◌≡◌, ◌+◌, ◌-◌, ◌*◌, ◌<◌, ◌≤◌, IfOk, None, length, map, true};
 ghost use Rattle.cs_base.specs.declared.signal.Signal.TheVariants.{Bit};
-ghost use Rattle.cs_net.specs.Places.{place_of};
+ghost use Rattle.cs_modules.specs.Places.{place_of};
 ghost use Rattle.cs_multiply.specs.Written.{can_multiply, gate_outputs as gate_signals, port_inputs as input_signals, register_number, register_outputs, wire_by, wire_of, written_signal};
 
 use crate::parts::{gate_outputs, port_inputs, register_signals};
 use cs_base::{BitId, Contexts, Signal};
-use cs_net::{Netlist, Places};
+use cs_modules::Places;
+use cs_net::Netlist;
 use std::alloc::{AllocError, Global};
 
 fn input_places(alloc: Global, net: &Netlist) -> Result<Places, AllocError>

@@ -6,22 +6,24 @@ use Rattle.std.specs.List.{AllByRecursion}
 use Rattle.cs_base.specs.declared.limit.LimitFault.{LimitFault}
 use Rattle.cs_json.specs.declared.document.Document.{Document}
 use Rattle.cs_json.specs.declared.document.PortDecl.{PortDecl}
-use Rattle.cs_net.specs.declared.error.NetError.{NetError}
-use Rattle.cs_net.specs.declared.error.NetError.TheVariants.{Asynchronous, BadPins, ClockAsData, ClockNotInput, ConstZ, GateLoop, Inout, Limit, MemoryForm, MixedEdges, NoMemory, NoTop, NotFine, Reserved, TwoClocks, TwoDrivers, TwoStarts, UnknownCell}
+use Rattle.cs_conditions.specs.declared.error.NetError.{NetError}
+use Rattle.cs_conditions.specs.declared.error.NetError.TheVariants.{Asynchronous, BadPins, ClockAsData, ClockNotInput, ConstZ, GateLoop, Inout, Limit, MemoryForm, MixedEdges, NoMemory, NoTop, NotFine, Reserved, TwoClocks, TwoDrivers, TwoStarts, UnknownCell}
 use Rattle.cs_cells.specs.declared.memory.MemShape.{MemShape}
 use Rattle.cs_json.specs.declared.document.Module.{Module}
 use Rattle.cs_json.specs.Readable.{IsModule, IsReadable}
 use Rattle.cs_net.specs.declared.netlist.Cell.{Cell}
-use Rattle.cs_net.specs.declared.netlist.Clock.{Clock}
+use Rattle.cs_modules.specs.declared.clocks.Clock.{Clock}
 use Rattle.cs_net.specs.declared.netlist.Port.{Port}
 use Rattle.cs_net.specs.declared.state.BitValue.{BitValue}
 use Rattle.cs_net.specs.declared.state.MemoryWords.{MemoryWords}
-use Rattle.cs_net.specs.Accept.{HasNoLoop, IsAccepted, Refuses, RefusesLate, RefusesModule, is_limit, limit_fault, limit_fault_of, shapes_in}
-use Rattle.cs_net.specs.Build.{cell_of, net_of, port_of, shape_of, words_by}
-use Rattle.cs_net.specs.Conditions.{cells_of, clock_of, early_refusal, is_marked, is_reserved, only_marked, only_one, reserved, top_of}
+use Rattle.cs_modules.specs.Memories.{shapes_in, shape_of}
+use Rattle.cs_net.specs.Accept.{HasNoLoop, IsAccepted, Refuses, RefusesLate, RefusesModule, is_limit, limit_fault, limit_fault_of}
+use Rattle.cs_net.specs.Build.{cell_of, net_of, port_of, words_by}
+use Rattle.cs_conditions.specs.Conditions.{early_refusal, is_reserved, reserved}
+use Rattle.cs_modules.specs.Modules.{cells_of, clock_of, is_marked, only_marked, only_one, top_of}
 use Rattle.cs_net.specs.Invariant.{HasOrder, IsSound, IsWellFormed}
 use Rattle.cs_net.specs.Netlist.{Net}
-use Rattle.cs_net.specs.Pins.{class_at}
+use Rattle.cs_modules.specs.Pins.{class_at}
 use Rattle.cs_net.proofs.LimitLemmas.{all_narrow}
 use Rattle.cs_net.proofs.Orders.{no_loop_of_order}
 

@@ -1,9 +1,8 @@
 -- What a netlist answers, a row at a time.
 use Rattle.std.proofs.Common.{◌≡◌, ℕ, zero, suc, ◌<◌, List, [], ◌∷◌, length, map, None, refl, sym, ap, ap₂, subst, ◌∙◌, arith, false}
 use Rattle.cs_net.specs.Netlist.{Net, State, state_of}
-use Rattle.cs_net.specs.Drivers.{IsOrder}
+use Rattle.cs_net.specs.Drivers.{IsOrder, own_start}
 use Rattle.cs_net.specs.Trace.{Row, Valuation, next_state, Settles, IsTrace, output_row, output_rows, Answers, AreSteps}
-use Rattle.cs_net.specs.Drivers.{own_start}
 use Rattle.cs_net.specs.Contexts.{with_images, no_images, start_of}
 use Rattle.cs_net.specs.Isolates.{Isolates}
 use Rattle.cs_net.specs.declared.state.MemoryWords.{MemoryWords}

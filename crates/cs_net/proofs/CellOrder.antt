@@ -7,8 +7,8 @@ use Rattle.cs_json.specs.declared.document.Module.{Module}
 use Rattle.cs_json.specs.Readable.{AreInOrder, is_below}
 use Rattle.cs_net.specs.declared.netlist.Cell.{Cell}
 use Rattle.cs_net.specs.Build.{cell_of, net_of}
-use Rattle.cs_net.specs.Conditions.{cells_in, is_scope}
-use Rattle.cs_net.specs.Pins.{class_at}
+use Rattle.cs_modules.specs.Modules.{cells_in, is_scope}
+use Rattle.cs_modules.specs.Pins.{class_at}
 
 -- what is below all of the cells is below those that are kept
 kept_above : (name : List ℕ) (cells : List CellDecl)

@@ -13,18 +13,21 @@ use Rattle.cs_cells.specs.declared.memory.ReadShape.{ReadShape}
 use Rattle.cs_json.specs.declared.document.CellDecl.{CellDecl}
 use Rattle.cs_json.specs.declared.document.Module.{Module}
 use Rattle.cs_json.specs.declared.document.PinDecl.{PinDecl}
-use Rattle.cs_net.specs.declared.error.NetError.TheVariants.{TwoDrivers}
+use Rattle.cs_conditions.specs.declared.error.NetError.TheVariants.{TwoDrivers}
 use Rattle.cs_net.specs.declared.netlist.Cell.{Cell}
-use Rattle.cs_net.specs.Build.{cell_of, memory_shape, net_of, shape_by, shape_of}
-use Rattle.cs_net.specs.Conditions.{cells_of, connections_of, driven_signals, duplicates, early_refusal, input_bits, is_cell_output, least, number_in}
-use Rattle.cs_net.specs.Drivers.{DrivenSignal, bits_of, cell_drives, class_drives, data_inputs, drivers, input, is_bit, is_clock, is_input, port_part, read_drives, read_driver, signal_of}
+use Rattle.cs_modules.specs.Memories.{memory_shape, shape_by, shape_of}
+use Rattle.cs_net.specs.Build.{cell_of, net_of}
+use Rattle.cs_conditions.specs.Conditions.{duplicates, early_refusal, least}
+use Rattle.cs_modules.specs.Modules.{cells_of, connections_of, driven_signals, input_bits, is_cell_output}
+use Rattle.cs_modules.specs.Signals.{number_in, is_bit, is_input}
+use Rattle.cs_net.specs.Drivers.{DrivenSignal, bits_of, cell_drives, class_drives, data_inputs, drivers, input, is_clock, port_part, read_drives, read_driver, signal_of}
 use Rattle.cs_net.specs.Invariant.{IsWellFormed}
 use Rattle.cs_net.specs.Netlist.{Net}
-use Rattle.cs_net.specs.Pins.{Connection, cell_connections, class_at, connections, pin_bits, pin_connections, role_of}
-use Rattle.cs_net.proofs.Connections.{list_any-numbers}
+use Rattle.cs_modules.specs.Pins.{Connection, cell_connections, class_at, connections, pin_bits, pin_connections, role_of}
+use Rattle.cs_modules.proofs.Connections.{list_any-numbers}
 use Rattle.cs_net.proofs.Occurrences.{at_one_place, count_of, count_of-append, count_of-enumerate, count_of-filter, count_of-map, count_of-parts, one_if}
 use Rattle.cs_net.proofs.PinLemmas.{same_port_bits, same_bits}
-use Rattle.cs_net.proofs.Refusals.{no_two_drivers}
+use Rattle.cs_conditions.proofs.Refusals.{no_two_drivers}
 
 -- ---- a list of signals that has no bit twice
 

@@ -12,7 +12,8 @@ use Rattle.cs_json.specs.Readable.{AreInOrder}
 use Rattle.cs_net.specs.declared.elements.Element.{Element}
 use Rattle.cs_net.specs.declared.netlist.Cell.{Cell}
 use Rattle.cs_net.specs.Accept.{combinational_outputs, is_combinational}
-use Rattle.cs_net.specs.Drivers.{Driver, DrivenSignal, undriven, input, gate, register, word_bit, cell_drives, class_drives, fanin, holds_bit, is_bit, memory_drives, port_part, read_driver, read_drives, read_element as read_register_element, read_word_bit}
+use Rattle.cs_modules.specs.Signals.{holds_bit, is_bit}
+use Rattle.cs_net.specs.Drivers.{Driver, DrivenSignal, undriven, input, gate, register, word_bit, cell_drives, class_drives, fanin, memory_drives, port_part, read_driver, read_drives, read_element as read_register_element, read_word_bit}
 use Rattle.cs_net.specs.Elements.{cell_elements, class_elements, elements_of, memory_elements, read_element}
 use Rattle.cs_net.specs.Loops.{name_at}
 use Rattle.cs_net.specs.Netlist.{Net}

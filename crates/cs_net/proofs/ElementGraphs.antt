@@ -17,14 +17,13 @@ use Rattle.cs_order.specs.Graphs.{Graph, IsOrder, place_in, sources_of}
 use Rattle.cs_order.proofs.CallerLemmas.{place_after_source, place_positive}
 use Rattle.cs_base.proofs.ListLemmas.{at_contains}
 use Rattle.cs_net.specs.declared.elements.Element.{Element}
-use Rattle.cs_net.specs.Conditions.{number_in}
-use Rattle.cs_net.specs.Drivers.{holds_bit, is_bit}
+use Rattle.cs_modules.specs.Signals.{number_in, holds_bit, is_bit}
 use Rattle.cs_net.specs.Elements.{elements_of, graph_of, owner, sources}
 use Rattle.cs_net.specs.Invariant.{HasOrder}
 use Rattle.cs_net.specs.Netlist.{Net}
 use Rattle.cs_net.proofs.ElementLemmas.{fanin_of_driver, inputs_for}
-use Rattle.cs_net.proofs.FirstPlaces.{left_at}
-use Rattle.cs_net.proofs.MadeLists.{next_mapped}
+use Rattle.cs_modules.proofs.FirstPlaces.{left_at}
+use Rattle.cs_modules.proofs.MadeLists.{next_mapped}
 
 -- ---- how it is built
 

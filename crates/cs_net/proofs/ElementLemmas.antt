@@ -13,7 +13,8 @@ use Rattle.cs_cells.specs.declared.class.Class.TheVariants.{Gate, Register, Memo
 use Rattle.cs_net.specs.declared.elements.Element.{Element}
 use Rattle.cs_net.specs.declared.netlist.Cell.{Cell}
 use Rattle.cs_net.specs.Netlist.{Net}
-use Rattle.cs_net.specs.Drivers.{Driver, DrivenSignal, undriven, input, driver_of, drivers, data_inputs, fanin, holds_bit, is_bit, cell_drives, class_drives, memory_drives, read_driver, read_drives, read_element as read_register_element, read_word_bit, register, word_bit, port_part}
+use Rattle.cs_modules.specs.Signals.{holds_bit, is_bit}
+use Rattle.cs_net.specs.Drivers.{Driver, DrivenSignal, undriven, input, driver_of, drivers, data_inputs, fanin, cell_drives, class_drives, memory_drives, read_driver, read_drives, read_element as read_register_element, read_word_bit, register, word_bit, port_part}
 use Rattle.cs_net.specs.Elements.{cell_elements, class_elements, elements_of, memory_elements, read_element}
 
 -- the first element that drives a bit

@@ -6,9 +6,10 @@ use Rattle.cs_base.specs.declared.signal.Signal.{Signal}
 use Rattle.cs_cells.specs.declared.memory.MemShape.{MemShape}
 use Rattle.cs_net.specs.declared.elements.Element.{Element}
 use Rattle.cs_net.specs.declared.netlist.Cell.{Cell}
-use Rattle.cs_net.specs.declared.netlist.Clock.{Clock}
+use Rattle.cs_modules.specs.declared.clocks.Clock.{Clock}
 use Rattle.cs_net.specs.declared.netlist.Port.{Port}
-use Rattle.cs_net.specs.Drivers.{is_clock, is_input}
+use Rattle.cs_modules.specs.Signals.{is_input}
+use Rattle.cs_net.specs.Drivers.{is_clock}
 use Rattle.cs_net.specs.Elements.{cell_elements, elements_of}
 use Rattle.cs_net.specs.Netlist.{Net}
 

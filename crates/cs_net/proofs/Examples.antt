@@ -3,7 +3,7 @@ use Rattle.std.proofs.Common.{◌≡◌, ℕ, Bool, true, false, List, [], ◌�
 use Rattle.std.specs.Prelude.{⊤, ◌==◌, if◌then◌else◌}
 use Rattle.std.specs.List.{IsDistinct}
 use Prim.Native.String.{String}
-use Rattle.cs_net.specs.Digits.{binary_digits, binary_digits_within}
+use Rattle.cs_modules.specs.Digits.{binary_digits, binary_digits_within}
 use Rattle.cs_base.specs.declared.signal.Signal.{Signal}
 use Rattle.cs_base.specs.declared.signal.Signal.TheVariants.{Zero, One, HighZ, Bit}
 use Rattle.cs_json.specs.declared.document.Module.{Module}
@@ -18,12 +18,12 @@ use Rattle.cs_cells.specs.Gates.{equation}
 use Rattle.cs_cells.specs.Registers.{next_value}
 use Rattle.cs_cells.specs.Memories.{read_bit, after_write}
 use Rattle.cs_cells.specs.Classes.{class_of}
-use Rattle.cs_net.specs.declared.error.NetError.{NetError}
-use Rattle.cs_net.specs.declared.error.NetError.TheVariants.{NotFine, BadPins, TwoDrivers, TwoClocks, ClockAsData, TwoStarts, MemoryForm, Reserved}
+use Rattle.cs_conditions.specs.declared.error.NetError.{NetError}
+use Rattle.cs_conditions.specs.declared.error.NetError.TheVariants.{NotFine, BadPins, TwoDrivers, TwoClocks, ClockAsData, TwoStarts, MemoryForm, Reserved}
 use Rattle.cs_net.specs.declared.images.Images.{Images}
 use Rattle.cs_net.specs.Netlist.{Net, State}
 use Rattle.cs_net.specs.Drivers.{driver_of}
-use Rattle.cs_net.specs.Conditions.{early_refusal, reserved, or_else}
+use Rattle.cs_conditions.specs.Conditions.{early_refusal, reserved, or_else}
 use Rattle.cs_net.specs.Build.{net_of}
 use Rattle.cs_net.specs.Accept.{IsLoopOfCells}
 use Rattle.cs_net.specs.Contexts.{no_images, start_of}

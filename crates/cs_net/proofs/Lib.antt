@@ -1,24 +1,12 @@
-pub mod BinaryDigits
-pub mod Connections
-pub mod Duplicates
-pub mod TopModule
-pub mod Values
+pub mod RegisterStarts
 pub mod Traces
 pub mod Answering
-pub mod FirstPlaces
-pub mod FirstValues
 pub mod PlainNets
 pub mod LogicModules
-pub mod GatePins
 pub mod Orders
 mod Examples
 mod LoopExamples
-pub mod WidthLemmas
-pub mod MemoryRules
-pub mod Refusals
 pub mod LimitLemmas
-pub mod Pushed
-pub mod MadeLists
 pub mod AcceptLemmas
 pub mod ElementLemmas
 pub mod ElementLists

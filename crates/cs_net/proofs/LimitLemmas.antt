@@ -7,8 +7,9 @@ use Rattle.std.proofs.lemmas.Bool.{le-leb}
 use Rattle.cs_base.specs.declared.limit.Counted.TheVariants.{AddressBits, Cells, MemoryBits, ReadBits}
 use Rattle.cs_base.specs.declared.limit.LimitFault.{LimitFault}
 use Rattle.cs_cells.specs.declared.memory.MemShape.{MemShape}
-use Rattle.cs_net.specs.Accept.{above_limit, limit_fault_of, memory_bits, memory_fault_of, read_bits, shapes_in}
-use Rattle.cs_net.specs.Conditions.{or_else}
+use Rattle.cs_modules.specs.Memories.{shapes_in}
+use Rattle.cs_net.specs.Accept.{above_limit, limit_fault_of, memory_bits, memory_fault_of, read_bits}
+use Rattle.cs_conditions.specs.Conditions.{or_else}
 
 pub shifted_one : (k : ℕ) → k ≤ 20 → 1 * 2 ^ k % 18446744073709551616 ≡ 2 ^ k
 shifted_one k few =

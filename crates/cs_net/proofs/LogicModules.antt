@@ -7,9 +7,11 @@ use Rattle.cs_json.specs.declared.document.Module.{Module}
 use Rattle.cs_json.specs.declared.document.CellDecl.{CellDecl}
 use Rattle.cs_cells.specs.declared.class.Class.{Class}
 use Rattle.cs_cells.specs.declared.class.Class.TheVariants.{Gate, Register, Memory, Scope, Asynchronous, NotFine, Unknown}
-use Rattle.cs_net.specs.Build.{net_of, cell_of, shape_of}
-use Rattle.cs_net.specs.Pins.{class_at}
-use Rattle.cs_net.specs.Conditions.{cells_of, cells_in, is_scope, is_unknown, is_not_fine, is_asynchronous, is_memory, unknown_cell, not_fine, asynchronous, is_misformed, memory_form}
+use Rattle.cs_modules.specs.Memories.{shape_of}
+use Rattle.cs_net.specs.Build.{net_of, cell_of}
+use Rattle.cs_modules.specs.Pins.{class_at}
+use Rattle.cs_conditions.specs.Conditions.{is_unknown, is_not_fine, is_asynchronous, unknown_cell, not_fine, asynchronous, is_misformed, memory_form}
+use Rattle.cs_modules.specs.Modules.{cells_of, cells_in, is_scope, is_memory}
 use Rattle.cs_net.proofs.PlainNets.{is_logic, IsLogicNet, AreLogic}
 
 -- a cell that is a gate or a register

@@ -12,8 +12,8 @@ use Rattle.cs_order.specs.Graphs.{DependsOn, IsLoop as IsLoopOfVertices, IsWalk,
 use Rattle.cs_order.proofs.CallerLemmas.{depends_within}
 use Rattle.cs_base.proofs.ListLemmas.{contains_at, same_element}
 use Rattle.cs_net.specs.declared.elements.Element.{Element}
-use Rattle.cs_net.specs.Conditions.{number_in}
-use Rattle.cs_net.specs.Drivers.{IsChain, IsLoop, depends_on, holds_bit, is_bit}
+use Rattle.cs_modules.specs.Signals.{number_in, holds_bit, is_bit}
+use Rattle.cs_net.specs.Drivers.{IsChain, IsLoop, depends_on}
 use Rattle.cs_net.specs.Elements.{elements_of, graph_of, owner, sources}
 use Rattle.cs_net.specs.Netlist.{Net}
 use Rattle.cs_net.proofs.ElementLemmas.{element_that_drives, fanin_of_driver}

@@ -15,8 +15,8 @@ use Rattle.cs_base.proofs.ListLemmas.{same_element}
 use Rattle.cs_net.specs.declared.elements.Element.{Element}
 use Rattle.cs_net.specs.declared.netlist.Cell.{Cell}
 use Rattle.cs_net.specs.Accept.{combinational_outputs, drives_one_of, feeds}
-use Rattle.cs_net.specs.Conditions.{is_bit_of}
-use Rattle.cs_net.specs.Drivers.{DrivenSignal, fanin, holds_bit, is_bit}
+use Rattle.cs_modules.specs.Signals.{is_bit_of, holds_bit, is_bit}
+use Rattle.cs_net.specs.Drivers.{DrivenSignal, fanin}
 use Rattle.cs_net.specs.Elements.{elements_of, graph_of}
 use Rattle.cs_net.specs.Loops.{AreNext, IsAtEnd, name_at, place_of_cell}
 use Rattle.cs_net.specs.Netlist.{Net}

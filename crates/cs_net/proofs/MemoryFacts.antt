@@ -10,12 +10,12 @@ use Rattle.cs_json.specs.declared.document.CellDecl.{CellDecl}
 use Rattle.cs_json.specs.Readable.{AreInOrder, is_below}
 use Rattle.cs_net.specs.declared.netlist.Cell.{Cell}
 use Rattle.cs_net.specs.declared.state.MemoryWords.{MemoryWords}
-use Rattle.cs_net.specs.Accept.{shapes_in}
-use Rattle.cs_net.specs.Build.{cell_of, net_of, places_from, shape_by, shape_of, words_by}
-use Rattle.cs_net.specs.Conditions.{cells_of, is_memory}
+use Rattle.cs_modules.specs.Memories.{shapes_in, shape_by, shape_of}
+use Rattle.cs_net.specs.Build.{cell_of, net_of, places_from, words_by}
+use Rattle.cs_modules.specs.Modules.{cells_of, is_memory}
 use Rattle.cs_net.specs.Invariant.{IsWellFormed}
 use Rattle.cs_net.specs.Netlist.{Net, words_at}
-use Rattle.cs_net.specs.Pins.{class_at}
+use Rattle.cs_modules.specs.Pins.{class_at}
 use Rattle.cs_net.proofs.CellNames.{below_differs, bytes_eq_flips, same_itself}
 use Rattle.cs_net.proofs.CellOrder.{cells_in_order}
 use Rattle.cs_net.proofs.Members.{of_all}

@@ -10,11 +10,12 @@ use Rattle.cs_json.specs.declared.document.Module.{Module}
 use Rattle.cs_json.specs.Readable.{AreInOrder, IsModule, is_below}
 use Rattle.cs_net.specs.declared.netlist.Cell.{Cell}
 use Rattle.cs_net.specs.declared.state.MemoryWords.{MemoryWords}
-use Rattle.cs_net.specs.Build.{cell_of, memory_shape, first_words, net_of, places_from, shape_by, shape_of, words_by}
-use Rattle.cs_net.specs.Conditions.{cells_of}
+use Rattle.cs_modules.specs.Memories.{memory_shape, first_words, shape_by, shape_of}
+use Rattle.cs_net.specs.Build.{cell_of, net_of, places_from, words_by}
+use Rattle.cs_modules.specs.Modules.{cells_of}
 use Rattle.cs_net.specs.Invariant.{AreMemoryPlaces}
 use Rattle.cs_net.specs.Netlist.{words_at}
-use Rattle.cs_net.specs.Pins.{class_at}
+use Rattle.cs_modules.specs.Pins.{class_at}
 use Rattle.cs_net.proofs.CellNames.{below_differs, same_itself}
 use Rattle.cs_net.proofs.CellOrder.{cells_in_order}
 

@@ -8,14 +8,15 @@ use Rattle.cs_json.specs.declared.document.Direction.{Direction}
 use Rattle.cs_json.specs.declared.document.Module.{Module}
 use Rattle.cs_json.specs.declared.document.PinDecl.{PinDecl}
 use Rattle.cs_json.specs.declared.document.PortDecl.{PortDecl}
-use Rattle.cs_net.specs.declared.error.NetError.TheVariants.{BadPins}
+use Rattle.cs_conditions.specs.declared.error.NetError.TheVariants.{BadPins}
 use Rattle.cs_net.specs.declared.netlist.PinBits.{PinBits}
 use Rattle.cs_net.specs.declared.netlist.Port.{Port}
 use Rattle.cs_net.specs.Build.{cell_of, pin_of, port_of}
-use Rattle.cs_net.specs.Conditions.{cells_of, early_refusal, has_right_pins}
+use Rattle.cs_conditions.specs.Conditions.{early_refusal}
+use Rattle.cs_modules.specs.Modules.{cells_of}
+use Rattle.cs_modules.specs.Pins.{has_right_pins, Widths, has_pin, is_pin_of, pin_bits, width_at}
 use Rattle.cs_net.specs.Drivers.{bits_of}
-use Rattle.cs_net.specs.Pins.{Widths, has_pin, is_pin_of, pin_bits, width_at}
-use Rattle.cs_net.proofs.Refusals.{no_bad_pins}
+use Rattle.cs_conditions.proofs.Refusals.{no_bad_pins}
 
 -- a pin that is there has the width of its type
 pub pin_width : (widths : Widths) (pins : List PinDecl) (name : List ℕ) (n : ℕ) → AllByRecursion (λ p. is_pin_of widths p ≡ true) pins →

@@ -9,14 +9,15 @@ use Rattle.cs_cells.specs.declared.memory.MemShape.{MemShape}
 use Rattle.cs_json.specs.declared.document.CellDecl.{CellDecl}
 use Rattle.cs_json.specs.declared.document.PinDecl.{PinDecl}
 use Rattle.cs_net.specs.declared.netlist.Cell.{Cell}
-use Rattle.cs_net.specs.Build.{cell_of, net_of, read_shape, shape_by, shape_of}
-use Rattle.cs_net.specs.Conditions.{cells_of, has_right_pins}
+use Rattle.cs_modules.specs.Memories.{read_shape, shape_by, shape_of}
+use Rattle.cs_net.specs.Build.{cell_of, net_of}
+use Rattle.cs_modules.specs.Modules.{cells_of}
+use Rattle.cs_modules.specs.Pins.{has_right_pins, Widths, class_at, count_from, has_pin, has_pins, has_sizes, is_pin_of, memory_widths, number_at, width_at, widths_of}
 use Rattle.cs_net.specs.Drivers.{bits_of}
 use Rattle.cs_net.specs.Invariant.{IsWellFormed}
 use Rattle.cs_net.specs.Netlist.{Net}
-use Rattle.cs_net.specs.Pins.{Widths, class_at, count_from, has_pin, has_pins, has_sizes, is_pin_of, memory_widths, number_at, width_at, widths_of}
 use Rattle.cs_net.specs.Widths.{widths_by}
-use Rattle.cs_net.proofs.GatePins.{all_pass, both}
+use Rattle.cs_modules.proofs.GatePins.{all_pass, both}
 use Rattle.cs_net.proofs.Members.{of_all}
 use Rattle.cs_net.proofs.MemoryPlaces.{at_map, map_at}
 use Rattle.cs_net.proofs.PinLemmas.{pin_width, right_pins, same_bits}

@@ -12,9 +12,10 @@ use Rattle.cs_cells.specs.declared.class.Class.TheVariants.{Gate, Register, Memo
 use Rattle.cs_cells.specs.Gates.{pin_count, pin_name}
 use Rattle.cs_net.specs.declared.netlist.Cell.{Cell}
 use Rattle.cs_net.specs.Netlist.{Net}
-use Rattle.cs_net.specs.Drivers.{Driver, DrivenSignal, undriven, input, gate, register, driver_of, data_inputs, cell_drives, register_of, signal_of, is_bit}
-use Rattle.cs_net.specs.Pins.{count_from}
-use Rattle.cs_net.specs.Places.{place_of}
+use Rattle.cs_modules.specs.Signals.{is_bit}
+use Rattle.cs_net.specs.Drivers.{Driver, DrivenSignal, undriven, input, gate, register, driver_of, data_inputs, cell_drives, register_of, signal_of}
+use Rattle.cs_modules.specs.Pins.{count_from}
+use Rattle.cs_modules.specs.Places.{place_of}
 
 -- a gate or a register
 abbrev pub is_logic : Class → Bool

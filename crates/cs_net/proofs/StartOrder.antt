@@ -15,13 +15,14 @@ use Rattle.cs_json.specs.declared.document.Module.{Module}
 use Rattle.cs_net.specs.declared.netlist.Cell.{Cell}
 use Rattle.cs_net.specs.declared.state.BitValue.{BitValue}
 use Rattle.cs_net.specs.Build.{cell_of, net_of, starts_by}
-use Rattle.cs_net.specs.Conditions.{cells_of, has_right_pins, initial_value, number_in}
+use Rattle.cs_modules.specs.Modules.{cells_of, initial_value}
+use Rattle.cs_modules.specs.Pins.{has_right_pins, class_at, has_pin, has_pins, has_sizes, is_pin_of, pin_bits, register_widths, widths_of}
+use Rattle.cs_modules.specs.Signals.{number_in}
 use Rattle.cs_net.specs.Drivers.{signal_of}
 use Rattle.cs_net.specs.Invariant.{IsWellFormed}
 use Rattle.cs_net.specs.Netlist.{Net, bit_at}
-use Rattle.cs_net.specs.Pins.{class_at, has_pin, has_pins, has_sizes, is_pin_of, pin_bits, register_widths, widths_of}
 use Rattle.cs_net.specs.Starts.{start_by, start_of_class, starts_of_cell}
-use Rattle.cs_net.proofs.GatePins.{all_pass, both}
+use Rattle.cs_modules.proofs.GatePins.{all_pass, both}
 use Rattle.cs_net.proofs.Members.{append_all}
 use Rattle.cs_net.proofs.PinLemmas.{pin_width, right_pins, same_bits}
 

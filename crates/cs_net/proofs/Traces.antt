@@ -8,7 +8,8 @@ use Rattle.cs_base.specs.declared.signal.Signal.TheVariants.{Zero, One, Unknown,
 use Rattle.cs_cells.specs.Gates.{gate_value}
 use Rattle.cs_cells.specs.Memories.{read_bit}
 use Rattle.cs_net.specs.Netlist.{Net, State}
-use Rattle.cs_net.specs.Drivers.{Driver, undriven, input, gate, word_bit, register, driver_of, fanin, holds_bit, is_bit, IsOrder}
+use Rattle.cs_modules.specs.Signals.{holds_bit, is_bit}
+use Rattle.cs_net.specs.Drivers.{Driver, undriven, input, gate, word_bit, register, driver_of, fanin, IsOrder}
 use Rattle.cs_net.specs.Trace.{Row, Valuation, signal_value, value_by, value_within, next_state, Settles, IsTrace, AgreeOver, HasOneTrace}
 
 -- two settings agree on the bits of a list of signals

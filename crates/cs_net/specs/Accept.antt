@@ -9,12 +9,15 @@ use Rattle.cs_base.specs.declared.limit.LimitFault.{LimitFault}
 use Rattle.cs_json.specs.declared.document.Document.{Document}
 use Rattle.cs_json.specs.declared.document.Module.{Module}
 use Rattle.cs_cells.specs.declared.memory.MemShape.{MemShape}
-use Rattle.cs_net.specs.declared.error.NetError.{NetError}
-use Rattle.cs_net.specs.declared.error.NetError.TheVariants.{NoTop, GateLoop, Reserved, Limit}
+use Rattle.cs_conditions.specs.declared.error.NetError.{NetError}
+use Rattle.cs_conditions.specs.declared.error.NetError.TheVariants.{NoTop, GateLoop, Reserved, Limit}
 use Rattle.cs_net.specs.Netlist.{Net}
-use Rattle.cs_net.specs.Drivers.{Driver, undriven, input, gate, word_bit, register, DrivenSignal, fanin, is_bit, cell_drives, IsLoop}
-use Rattle.cs_net.specs.Conditions.{top_of, early_refusal, reserved, is_bit_of, or_else}
+use Rattle.cs_modules.specs.Signals.{is_bit, is_bit_of}
+use Rattle.cs_net.specs.Drivers.{Driver, undriven, input, gate, word_bit, register, DrivenSignal, fanin, cell_drives, IsLoop}
+use Rattle.cs_conditions.specs.Conditions.{early_refusal, reserved, or_else}
+use Rattle.cs_modules.specs.Modules.{top_of}
 use Rattle.cs_net.specs.Build.{net_of}
+use Rattle.cs_modules.specs.Memories.{shapes_in}
 
 -- ---- 15: loops
 
@@ -73,10 +76,6 @@ IsLoopOfCells net (first ∷ rest) = (bits : List ℕ) × IsLoopOf net bits firs
 abbrev pub above_limit : Counted → ℕ → ℕ → Option LimitFault
 above_limit what count most =
     if nat_lt most count then Some (record { what = what; found = min count (2 ^ 64 - 1); most = most }) else None
-
--- the shapes of the memories, in order
-abbrev pub shapes_in : List (Option MemShape) → List MemShape
-shapes_in shapes = filter_map (λ shape. shape) shapes
 
 -- 2^ABITS * WIDTH, the bits that a memory's addresses reach
 abbrev pub memory_bits : MemShape → ℕ

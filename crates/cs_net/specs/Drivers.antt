@@ -3,8 +3,6 @@ use Rattle.std.specs.Prelude.{ℕ, ◌+◌, ◌*◌, ◌==◌, List, [], ◌∷�
 use Rattle.std.specs.List.{enumerate_from, flat_map, list_any, zip}
 use Rattle.cs_base.specs.declared.signal.Signal.{Signal}
 use Rattle.cs_base.specs.declared.signal.Signal.TheVariants.{Zero, One, Unknown, HighZ, Bit}
-use Rattle.cs_json.specs.declared.document.Direction.{Direction}
-use Rattle.cs_json.specs.declared.document.Direction.TheVariants.{Input, Output, Inout}
 use Rattle.cs_cells.specs.declared.gate.Kind.{Kind}
 use Rattle.cs_cells.specs.declared.register.FfKind.{FfKind}
 use Rattle.cs_cells.specs.declared.memory.MemShape.{MemShape}
@@ -14,11 +12,12 @@ use Rattle.cs_cells.specs.declared.class.Class.TheVariants.{Gate, Register, Memo
 use Rattle.cs_cells.specs.Gates.{pin_count, pin_name}
 use Rattle.cs_cells.specs.Memories.{read_register}
 use Rattle.cs_net.specs.declared.netlist.Cell.{Cell}
-use Rattle.cs_net.specs.declared.netlist.Clock.{Clock}
+use Rattle.cs_modules.specs.declared.clocks.Clock.{Clock}
 use Rattle.cs_net.specs.declared.state.BitValue.{BitValue}
 use Rattle.cs_net.specs.declared.state.Snapshot.{Snapshot}
 use Rattle.cs_net.specs.Netlist.{Net}
-use Rattle.cs_net.specs.Pins.{count_from}
+use Rattle.cs_modules.specs.Pins.{count_from}
+use Rattle.cs_modules.specs.Signals.{holds_bit, is_bit, is_input, is_output}
 
 -- one bit of the word at an address of the memory of a name
 pub record WordBit : Type 0 where
@@ -69,24 +68,6 @@ abbrev pub port_part : Cell → List ℕ → ℕ → ℕ → List Signal
 port_part cell name width i = slice_range (bits_of cell name) (i * width) (i * width + width)
 
 -- ---- the ports' bits
-
-abbrev pub is_input : Direction → Bool
-is_input Input = true
-is_input Output = false
-is_input Inout = false
-
-abbrev pub is_output : Direction → Bool
-is_output Input = false
-is_output Output = true
-is_output Inout = false
-
--- the signal is the bit of this number
-abbrev pub is_bit : ℕ → Signal → Bool
-is_bit b Zero = false
-is_bit b One = false
-is_bit b Unknown = false
-is_bit b HighZ = false
-is_bit b (Bit a) = a == b
 
 -- the signal is the clock's bit
 abbrev pub is_clock : Option Clock → Signal → Bool
@@ -217,10 +198,6 @@ fanin (input i) = []
 fanin (gate kind pins) = pins
 fanin (word_bit w) = w.address
 fanin (register r) = []
-
--- one of the signals is this bit
-abbrev pub holds_bit : ℕ → List Signal → Bool
-holds_bit b signals = list_any (is_bit b) signals
 
 -- bit a is in the fan-in of bit b
 abbrev pub depends_on : Net → ℕ → ℕ → Bool

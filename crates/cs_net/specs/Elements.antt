@@ -9,10 +9,10 @@ use Rattle.cs_cells.specs.declared.memory.ReadShape.{ReadShape}
 use Rattle.cs_cells.specs.Gates.{pin_count, pin_name}
 use Rattle.cs_net.specs.declared.elements.Element.{Element}
 use Rattle.cs_net.specs.declared.netlist.Cell.{Cell}
-use Rattle.cs_net.specs.Conditions.{number_in}
-use Rattle.cs_net.specs.Drivers.{data_inputs, holds_bit, port_part, signal_of}
+use Rattle.cs_modules.specs.Signals.{number_in, holds_bit}
+use Rattle.cs_net.specs.Drivers.{data_inputs, port_part, signal_of}
 use Rattle.cs_net.specs.Netlist.{Net}
-use Rattle.cs_net.specs.Pins.{count_from}
+use Rattle.cs_modules.specs.Pins.{count_from}
 
 -- a read port; a clocked one depends on nothing within a clock
 abbrev pub read_element : ℕ → Cell → MemShape → ℕ × ReadShape → Element

@@ -7,7 +7,7 @@ use Rattle.cs_json.specs.declared.document.Module.{Module}
 use Rattle.cs_json.specs.Readable.{IsModule}
 use Rattle.cs_net.specs.Netlist.{Net, words_at}
 use Rattle.cs_net.specs.Drivers.{IsOrder}
-use Rattle.cs_net.specs.Conditions.{early_refusal, reserved}
+use Rattle.cs_conditions.specs.Conditions.{early_refusal, reserved}
 use Rattle.cs_net.specs.Build.{net_of}
 use Rattle.cs_net.specs.Accept.{limit_fault}
 

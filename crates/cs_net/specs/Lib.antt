@@ -1,10 +1,5 @@
-pub mod Digits
-pub mod Pins
 pub mod Netlist
 pub mod Drivers
-pub mod Places
-pub mod Conditions
-pub mod PinBits
 pub mod Starts
 pub mod Build
 pub mod Accept
@@ -14,5 +9,4 @@ pub mod Invariant
 pub mod Trace
 pub mod Contexts
 pub mod Isolates
-pub mod Refusal
 pub mod Widths

@@ -4,7 +4,7 @@ use Rattle.cs_cells.specs.declared.memory.MemShape.{MemShape}
 use Rattle.cs_cells.specs.Memories.{Words}
 use Rattle.cs_net.specs.declared.netlist.Cell.{Cell}
 use Rattle.cs_net.specs.declared.netlist.Port.{Port}
-use Rattle.cs_net.specs.declared.netlist.Clock.{Clock}
+use Rattle.cs_modules.specs.declared.clocks.Clock.{Clock}
 use Rattle.cs_net.specs.declared.state.Snapshot.{Snapshot}
 use Rattle.cs_net.specs.declared.state.BitValue.{BitValue}
 use Rattle.cs_net.specs.declared.state.MemoryWords.{MemoryWords}

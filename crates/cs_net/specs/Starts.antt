@@ -7,7 +7,7 @@ use Rattle.cs_cells.specs.declared.class.Class.{Class}
 use Rattle.cs_cells.specs.declared.class.Class.TheVariants.{Register}
 use Rattle.cs_net.specs.declared.netlist.Cell.{Cell}
 use Rattle.cs_net.specs.declared.state.BitValue.{BitValue}
-use Rattle.cs_net.specs.Conditions.{number_in}
+use Rattle.cs_modules.specs.Signals.{number_in}
 use Rattle.cs_net.specs.Drivers.{signal_of}
 use Rattle.cs_net.specs.Netlist.{bit_at}
 

@@ -11,7 +11,7 @@ use Rattle.cs_net.specs.declared.netlist.Cell.{Cell}
 use Rattle.cs_net.specs.declared.state.Snapshot.{Snapshot}
 use Rattle.cs_net.specs.Netlist.{Net, State, state_of}
 use Rattle.cs_net.specs.Drivers.{WordBit, Source, from_signal, from_word, Driver, undriven, input, gate, word_bit, register, driver_of, data_inputs, data_outputs, port_part}
-use Rattle.cs_net.specs.Pins.{count_from}
+use Rattle.cs_modules.specs.Pins.{count_from}
 
 -- the data input bits, or the data output bits, of one clock
 abbrev pub Row : Type 0

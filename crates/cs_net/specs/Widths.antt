@@ -4,11 +4,7 @@ use Rattle.std.specs.Borrow.{Bor}
 use Rattle.cs_cells.specs.declared.class.Class.{Class}
 use Rattle.cs_cells.specs.declared.class.Class.TheVariants.{Gate, Register, Memory, Scope, Asynchronous, NotFine, Unknown}
 use Rattle.cs_cells.specs.declared.memory.MemShape.{MemShape}
-use Rattle.cs_net.specs.Pins.{Widths, gate_widths, memory_widths, register_widths}
-
--- names of pins with their numbers of bits
-abbrev pub widths_in : List (Bor (List ℕ) × ℕ) → Widths
-widths_in widths = map (λ w. (w.0.now, w.1)) widths
+use Rattle.cs_modules.specs.Pins.{Widths, gate_widths, memory_widths, register_widths}
 
 -- the pins of a memory of a shape, none without one
 abbrev pub widths_by_shape : Option MemShape → Widths

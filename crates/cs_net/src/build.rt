@@ -1,13 +1,13 @@
 // The ports and the cells of a netlist.
 ghost use Rattle.std.specs.Prelude.{◌≡◌, IfOk, filter, flat_map, length, map};
 ghost use Rattle.cs_net.specs.Build.{cell_of, pin_of, port_of};
-ghost use Rattle.cs_net.specs.Conditions.{cells_in};
-ghost use Rattle.cs_net.specs.Drivers.{is_output};
+ghost use Rattle.cs_modules.specs.Modules.{cells_in};
+ghost use Rattle.cs_modules.specs.Signals.{is_output};
 
-use crate::conditions::{class_at, is_output, is_scope};
 use crate::netlist::{Cell, PinBits, Port};
 use cs_base::{Sequence, Signal};
 use cs_json::{CellDecl, PinDecl, PortDecl};
+use cs_modules::{class_at, is_output, is_scope};
 use std::alloc::{AllocError, Global};
 
 fn signals(alloc: Global, bits: &[Signal]) -> Result<Sequence<Signal>, AllocError>

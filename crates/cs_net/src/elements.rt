@@ -3,17 +3,18 @@
 ghost use Rattle.std.specs.Prelude.{◌≡◌, ◌+◌, ◌*◌, ◌++◌, ◌<◌, [], ◌∷◌, IfOk, OnOk, codes, drop, filter, flat_map, if◌then◌else◌, length, map, not};
 ghost use Rattle.std.specs.List.{enumerate_from, slice_range, zip};
 ghost use Rattle.cs_cells.specs.Gates.{pin_count, pin_name};
-ghost use Rattle.cs_net.specs.Drivers.{is_bit, is_clock, is_input, port_part, signal_of};
+ghost use Rattle.cs_modules.specs.Signals.{is_bit, is_input};
+ghost use Rattle.cs_net.specs.Drivers.{is_clock, port_part, signal_of};
 ghost use Rattle.cs_net.specs.Elements.{cell_elements, elements_of, memory_elements, read_element};
 ghost use Rattle.cs_net.specs.Netlist.{Net};
-ghost use Rattle.cs_net.specs.Pins.{count_from};
+ghost use Rattle.cs_modules.specs.Pins.{count_from};
 
 mod graph;
 
-use crate::netlist::{Cell, Clock, Port};
+use crate::netlist::{Cell, Port};
 use cs_base::{Sequence, Signal};
 use cs_cells::{Class, Kind, MemShape, ReadShape};
-use cs_json::Direction;
+use cs_modules::{Clock, is_bit, is_input};
 pub(crate) use graph::arrange_elements;
 use std::alloc::{AllocError, Global};
 
@@ -29,18 +30,6 @@ pub struct Element {
 
 // ---- the data inputs
 
-fn is_bit(bit: u32, signal: Signal) -> bool
-    ensures { result ≡ is_bit bit signal }
-{
-    match signal {
-        Signal::Bit(found) => found.get() == bit,
-        Signal::Zero => false,
-        Signal::One => false,
-        Signal::Unknown => false,
-        Signal::HighZ => false,
-    }
-}
-
 fn is_clock(clock: Option<Clock>, signal: Signal) -> bool
     ensures { result ≡ is_clock clock signal }
 {
@@ -48,12 +37,6 @@ fn is_clock(clock: Option<Clock>, signal: Signal) -> bool
         Some(clock) => is_bit(clock.bit.get(), signal),
         None => false,
     }
-}
-
-fn is_input(direction: Direction) -> bool
-    ensures { result ≡ is_input direction }
-{
-    matches!(direction, Direction::Input)
 }
 
 // The bits of the input ports, port by port.

@@ -1,6 +1,7 @@
 // The program's limits on netlists.
 ghost use Rattle.std.specs.Prelude.{◌≡◌, ◌+◌, ◌*◌, ◌-◌, ◌<◌, ◌≤◌, ◌^◌, ℕ, IfSome, None, filter_map, find, length, map, min, nat_lt, option_map, sum};
-ghost use Rattle.cs_net.specs.Accept.{above_limit, limit_fault_of, memory_bits, memory_fault_of, read_bits, shapes_in};
+ghost use Rattle.cs_modules.specs.Memories.{shapes_in};
+ghost use Rattle.cs_net.specs.Accept.{above_limit, limit_fault_of, memory_bits, memory_fault_of, read_bits};
 
 use cs_base::{Counted, LimitFault};
 use cs_cells::MemShape;

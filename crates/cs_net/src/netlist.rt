@@ -16,6 +16,7 @@ use crate::state::{BitValue, MemoryWords};
 use cs_base::{BitId, Sequence, Signal, Text};
 use cs_cells::{Class, MemShape};
 use cs_json::Direction;
+use cs_modules::Clock;
 use std::alloc::{AllocError, Global};
 use std::collections::HashMap;
 use std::marker::Model;
@@ -78,13 +79,6 @@ pub struct Port {
     pub bits: Sequence<Signal>,
 }
 
-/// The clock: its bit, and whether registers take their next values at its rising edge.
-#[derive(Clone, Copy)]
-pub struct Clock {
-    pub bit: BitId,
-    pub rising: bool,
-}
-
 /// An accepted netlist.
 #[derive(Drop)]
 pub struct Netlist {
@@ -106,7 +100,7 @@ pub struct Netlist {
 }
 
 impl Model for Netlist {
-    ghost use Rattle.cs_net.specs.Netlist.{Net};
+    ghost use Rattle.cs_net.specs.Netlist.{Net, bit_at};
 
     ghost Value = { Net };
 
@@ -117,7 +111,6 @@ impl Model for Netlist {
     ghost use Rattle.cs_net.specs.Drivers.{data_inputs, data_outputs};
     ghost use Rattle.cs_net.specs.Elements.{elements_of, graph_of};
     ghost use Rattle.cs_net.specs.Invariant.{AreMemoryPlaces, IsWellFormed};
-    ghost use Rattle.cs_net.specs.Netlist.{bit_at};
     ghost use Rattle.cs_net.specs.Starts.{noted_value};
 
     ghost invariant = { λ n.

@@ -2,8 +2,8 @@
 use Rattle.std.specs.Prelude.{ℕ, List, [], ◌++◌, flat_map, codes, decimal}
 use Rattle.cs_base.specs.declared.signal.Signal.{Signal}
 use Rattle.cs_base.specs.declared.signal.Signal.TheVariants.{Zero, One, Unknown, HighZ, Bit}
-use Rattle.cs_net.specs.declared.error.NetError.{NetError}
-use Rattle.cs_net.specs.declared.error.NetError.TheVariants.{NoTop, UnknownCell, NotFine, Asynchronous, BadPins, Inout, ConstZ, TwoDrivers, ClockNotInput, TwoClocks, MixedEdges, ClockAsData, TwoStarts, MemoryForm, GateLoop, Reserved, Limit}
+use Rattle.cs_conditions.specs.declared.error.NetError.{NetError}
+use Rattle.cs_conditions.specs.declared.error.NetError.TheVariants.{NoTop, UnknownCell, NotFine, Asynchronous, BadPins, Inout, ConstZ, TwoDrivers, ClockNotInput, TwoClocks, MixedEdges, ClockAsData, TwoStarts, MemoryForm, GateLoop, Reserved, Limit}
 use Rattle.cs_report.specs.Words.{quoted}
 use Rattle.cs_report.specs.Limits.{limit_words}
 

@@ -7,7 +7,7 @@ use crate::refused::refused_text;
 use crate::words::{quoted_after, text_after};
 use cs_base::{Counted, LimitFault, Text};
 use cs_json::Place;
-use cs_net::NetError;
+use cs_conditions::NetError;
 use std::alloc::{AllocError, Global};
 
 /// What a refused run tells.

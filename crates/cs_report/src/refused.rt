@@ -6,7 +6,7 @@ ghost use Rattle.cs_report.specs.Refused.{bit_refused_words, bit_words, cell_wor
 use crate::fault::limit_text;
 use crate::words::{quoted, text_after};
 use cs_base::{BitId, Signal, Text};
-use cs_net::NetError;
+use cs_conditions::NetError;
 use std::alloc::{AllocError, Global};
 
 fn name_text(alloc: Global, words: &str, name: &Text) -> Result<Text, AllocError>

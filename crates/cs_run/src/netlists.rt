@@ -6,7 +6,8 @@ ghost use Rattle.cs_run.specs.Bytes.{HasFault, IsNetlistOf};
 
 use crate::reason::NetFault;
 use cs_json::{DocError, Document, read_document};
-use cs_net::{NetError, Netlist, accept};
+use cs_conditions::NetError;
+use cs_net::{Netlist, accept};
 use std::alloc::{AllocError, Global};
 
 /// The netlist that bytes say, or why they say none.

@@ -8,7 +8,7 @@ use crate::status::Status;
 use cs_base::Text;
 use cs_json::Place;
 use cs_multiply::MultiplyError;
-use cs_net::NetError;
+use cs_conditions::NetError;
 use cs_report::Fault;
 use cs_stream::StimError;
 use std::alloc::{AllocError, Global};

@@ -2,7 +2,7 @@
 use Rattle.std.proofs.Common.{◌≡◌, ℕ, zero, suc, ◌+◌, ◌≤◌, List, [], ◌∷◌, ◌++◌, append_assoc, append-nil, map, length, fold, drop, Some, None, refl, sym, ap, ap₂, ◌∙◌, add-one, arith}
 use Rattle.std.specs.Prelude.{flat_map, slice_get, Result, Ok, Err, OnOk}
 use Rattle.std.specs.List.{zip}
-use Rattle.cs_net.specs.Pins.{count_from}
+use Rattle.cs_modules.specs.Pins.{count_from}
 
 -- one place more
 counted_more : (from count : ℕ) → count_from from (suc count) ≡ count_from from count ++ (from + count) ∷ []

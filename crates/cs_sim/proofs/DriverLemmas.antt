@@ -1,7 +1,8 @@
 -- The driver of a bit is that which stands first among the pieces'.
 use Rattle.std.proofs.Common.{◌≡◌, ◌∙◌, ℕ, Option, Some, None, ap}
 use Rattle.std.specs.Prelude.{find, flat_map, option_map, unwrap_or}
-use Rattle.cs_net.specs.Drivers.{DrivenSignal, driver_of, is_bit, undriven}
+use Rattle.cs_modules.specs.Signals.{is_bit}
+use Rattle.cs_net.specs.Drivers.{DrivenSignal, driver_of, undriven}
 use Rattle.cs_net.specs.Netlist.{Net}
 use Rattle.cs_sim.proofs.PieceLemmas.{drivers_by_pieces}
 use Rattle.cs_sim.proofs.Pieces.{drives, pieces}

@@ -8,8 +8,8 @@ use Rattle.cs_cells.specs.declared.class.Class.TheVariants as class
 use Rattle.cs_cells.specs.declared.memory.MemShape.{MemShape}
 use Rattle.cs_cells.specs.Memories.{Words}
 use Rattle.cs_net.specs.declared.netlist.Cell.{Cell}
-use Rattle.cs_net.specs.Accept.{shapes_in}
-use Rattle.cs_net.specs.Conditions.{is_memory}
+use Rattle.cs_modules.specs.Memories.{shapes_in}
+use Rattle.cs_modules.specs.Modules.{is_memory}
 use Rattle.cs_net.specs.Invariant.{IsWellFormed}
 use Rattle.cs_net.specs.Netlist.{Net}
 use Rattle.cs_net.proofs.MemoryFacts.{memory_count, shape_count, shapes_fit}

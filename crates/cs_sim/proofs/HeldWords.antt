@@ -14,10 +14,10 @@ use Rattle.cs_net.specs.declared.netlist.Cell.{Cell}
 use Rattle.cs_net.specs.declared.state.MemoryWords.{MemoryWords}
 use Rattle.cs_net.specs.Build.{places_from}
 use Rattle.cs_net.specs.Invariant.{IsWellFormed}
-use Rattle.cs_net.specs.Conditions.{is_memory}
+use Rattle.cs_modules.specs.Modules.{is_memory}
 use Rattle.cs_net.specs.Drivers.{port_part}
 use Rattle.cs_net.specs.Netlist.{Net, words_at}
-use Rattle.cs_net.specs.Pins.{count_from}
+use Rattle.cs_modules.specs.Pins.{count_from}
 use Rattle.cs_net.specs.Trace.{Valuation, signal_value, write_at, writes_at, writes_of}
 use Rattle.cs_net.proofs.MemoryFacts.{no_words, shapes_fit, words_by_place}
 use Rattle.cs_net.proofs.Members.{Has, has_either, has_of_map}

@@ -9,7 +9,8 @@ use Rattle.cs_base.specs.declared.signal.Signal.{Signal}
 use Rattle.cs_cells.specs.declared.memory.MemShape.{MemShape}
 use Rattle.cs_cells.specs.declared.memory.ReadShape.{ReadShape}
 use Rattle.cs_net.specs.declared.netlist.Cell.{Cell}
-use Rattle.cs_net.specs.Drivers.{DrivenSignal, Driver, undriven, input, gate, word_bit, register, data_inputs, drivers, is_bit, read_data, read_element, read_word_bit, signal_of}
+use Rattle.cs_modules.specs.Signals.{is_bit}
+use Rattle.cs_net.specs.Drivers.{DrivenSignal, Driver, undriven, input, gate, word_bit, register, data_inputs, drivers, read_data, read_element, read_word_bit, signal_of}
 use Rattle.cs_net.specs.Invariant.{IsWellFormed}
 use Rattle.cs_net.specs.Netlist.{Net}
 use Rattle.cs_net.proofs.DrivenOnce.{driven_once}

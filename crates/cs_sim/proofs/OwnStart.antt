@@ -14,7 +14,7 @@ use Rattle.cs_net.specs.declared.netlist.Cell.{Cell}
 use Rattle.cs_net.specs.declared.state.BitValue.{BitValue}
 use Rattle.cs_net.specs.declared.state.MemoryWords.{MemoryWords}
 use Rattle.cs_net.specs.declared.state.Snapshot.{Snapshot}
-use Rattle.cs_net.specs.Conditions.{is_memory}
+use Rattle.cs_modules.specs.Modules.{is_memory}
 use Rattle.cs_net.specs.Drivers.{bit_value, memory_read_starts, own_start, read_data, read_starts, signal_of}
 use Rattle.cs_net.specs.Invariant.{IsWellFormed}
 use Rattle.cs_net.specs.Netlist.{Net, bit_at}

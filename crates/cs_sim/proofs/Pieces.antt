@@ -13,7 +13,7 @@ use Rattle.cs_cells.specs.Gates.{pin_count, pin_name}
 use Rattle.cs_net.specs.declared.netlist.Cell.{Cell}
 use Rattle.cs_net.specs.Drivers.{DrivenSignal, input, data_inputs, gate_drives, register_drives, read_drives, read_data, port_part, signal_of}
 use Rattle.cs_net.specs.Netlist.{Net}
-use Rattle.cs_net.specs.Pins.{count_from}
+use Rattle.cs_modules.specs.Pins.{count_from}
 use Rattle.cs_sim.specs.declared.layout.Layout.{Layout}
 use Rattle.cs_sim.specs.declared.layout.Part.{Part}
 use Rattle.cs_sim.specs.declared.layout.ReadPortSlots.{ReadPortSlots}

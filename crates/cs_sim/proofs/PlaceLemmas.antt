@@ -3,7 +3,8 @@ use Rattle.std.proofs.Common.{◌≡◌, ℕ, zero, suc, ◌+◌, ◌<◌, ◌�
 use Rattle.std.specs.Prelude.{◌⊎◌, find, flat_map, option_map, slice_get}
 use Rattle.std.specs.List.{position_from}
 use Rattle.cs_base.specs.declared.signal.Signal.{Signal}
-use Rattle.cs_net.specs.Drivers.{DrivenSignal, holds_bit, is_bit}
+use Rattle.cs_modules.specs.Signals.{holds_bit, is_bit}
+use Rattle.cs_net.specs.Drivers.{DrivenSignal}
 use Rattle.cs_sim.proofs.PieceLemmas.{signals_of}
 
 -- ---- places in lists that are joined

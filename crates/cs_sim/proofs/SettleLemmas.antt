@@ -14,10 +14,11 @@ use Rattle.cs_cells.specs.Gates.{gate_value, pin_count, pin_name}
 use Rattle.cs_cells.specs.Memories.{read_bit}
 use Rattle.cs_net.specs.declared.elements.Element.{Element}
 use Rattle.cs_net.specs.declared.netlist.Cell.{Cell}
-use Rattle.cs_net.specs.Drivers.{Driver, DrivenSignal, input, gate, word_bit, register, data_inputs, holds_bit, is_bit, port_part, read_data, read_element as read_register_element, read_word_bit, signal_of}
+use Rattle.cs_modules.specs.Signals.{holds_bit, is_bit}
+use Rattle.cs_net.specs.Drivers.{Driver, DrivenSignal, input, gate, word_bit, register, data_inputs, port_part, read_data, read_element as read_register_element, read_word_bit, signal_of}
 use Rattle.cs_net.specs.Elements.{elements_of, graph_of, owner, sources}
 use Rattle.cs_net.specs.Netlist.{Net, State}
-use Rattle.cs_net.specs.Pins.{count_from}
+use Rattle.cs_modules.specs.Pins.{count_from}
 use Rattle.cs_net.specs.Trace.{Row, Settles, Valuation, signal_value, value_by}
 use Rattle.cs_net.proofs.ElementGraphs.{input_owner, sources_of_element, vertex_count}
 use Rattle.cs_order.specs.Graphs.{IsOrder, StandsBefore, sources_of}

@@ -8,7 +8,8 @@ use Rattle.cs_cells.specs.declared.memory.MemShape.{MemShape}
 use Rattle.cs_cells.specs.declared.memory.ReadShape.{ReadShape}
 use Rattle.cs_cells.specs.declared.register.FfKind.{FfKind}
 use Rattle.cs_net.specs.declared.netlist.Cell.{Cell}
-use Rattle.cs_net.specs.Drivers.{DrivenSignal, bit_value, is_bit, read_data, read_driver, signal_of}
+use Rattle.cs_modules.specs.Signals.{is_bit}
+use Rattle.cs_net.specs.Drivers.{DrivenSignal, bit_value, read_data, read_driver, signal_of}
 use Rattle.cs_net.specs.Invariant.{IsWellFormed}
 use Rattle.cs_net.specs.Netlist.{Net, bit_at}
 use Rattle.cs_net.proofs.Occurrences.{count_of}

@@ -1,7 +1,7 @@
 -- What stands in the slots once bits are put into some of them.
 use Rattle.std.proofs.Common.{◌≡◌, ℕ, zero, suc, ◌+◌, ◌<◌, ◌≤◌, ◌≢◌, List, [], ◌∷◌, length, get_or, map, set, Bool, false, refl, ap, ◌∙◌, arith}
 use Rattle.std.proofs.lemmas.List.{get_or-set_same, get_or-set_other, length-set}
-use Rattle.cs_net.specs.Pins.{count_from}
+use Rattle.cs_modules.specs.Pins.{count_from}
 use Rattle.cs_sim.specs.Slots.{bits_from, stored}
 
 pub length-stored : (values : List Bool) (first : ℕ) (bits : List Bool) → length (stored values first bits) ≡ length values

@@ -6,7 +6,8 @@ use Rattle.std.proofs.Math.ListN.{get_or-append}
 use Rattle.cs_base.specs.declared.signal.Signal.{Signal}
 use Rattle.cs_base.specs.declared.signal.Signal.TheVariants.{Zero, One, Unknown, HighZ, Bit}
 use Rattle.cs_net.specs.declared.state.BitValue.{BitValue}
-use Rattle.cs_net.specs.Drivers.{bit_value, is_bit}
+use Rattle.cs_modules.specs.Signals.{is_bit}
+use Rattle.cs_net.specs.Drivers.{bit_value}
 use Rattle.cs_net.specs.Netlist.{bit_at}
 use Rattle.cs_net.proofs.Occurrences.{count_of, counted, one_if}
 use Rattle.cs_sim.proofs.PlaceLemmas.{slice_get_below, slice_get_front}

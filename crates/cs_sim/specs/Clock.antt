@@ -5,7 +5,7 @@ use Rattle.cs_cells.specs.declared.gate.Kind.{Kind}
 use Rattle.cs_cells.specs.Gates.{gate_value, pin_count}
 use Rattle.cs_cells.specs.Memories.{Word, Words, Write, after_writes}
 use Rattle.cs_cells.specs.Registers.{next_value}
-use Rattle.cs_net.specs.Pins.{count_from}
+use Rattle.cs_modules.specs.Pins.{count_from}
 use Rattle.cs_sim.specs.declared.layout.Layout.{Layout}
 use Rattle.cs_sim.specs.declared.layout.Part.{Part}
 use Rattle.cs_sim.specs.declared.layout.ReadBit.{ReadBit}

@@ -15,7 +15,7 @@ use Rattle.cs_net.specs.declared.netlist.Cell.{Cell}
 use Rattle.cs_net.specs.declared.state.BitValue.{BitValue}
 use Rattle.cs_net.specs.Drivers.{bits_of, data_inputs, port_part, read_data, signal_of}
 use Rattle.cs_net.specs.Netlist.{Net, bit_at}
-use Rattle.cs_net.specs.Pins.{count_from}
+use Rattle.cs_modules.specs.Pins.{count_from}
 use Rattle.cs_sim.specs.declared.layout.Layout.{Layout}
 use Rattle.cs_sim.specs.declared.layout.ReadBit.{ReadBit}
 use Rattle.cs_sim.specs.declared.layout.ReadPortSlots.{ReadPortSlots}

@@ -3,8 +3,8 @@ use Rattle.std.specs.Prelude.{ℕ, ◌+◌, List, [], ◌∷◌, get_or, map, sl
 use Rattle.cs_base.specs.declared.signal.Signal.{Signal}
 use Rattle.cs_base.specs.declared.signal.Signal.TheVariants.{Zero, One, Unknown, HighZ, Bit}
 use Rattle.cs_cells.specs.Memories.{number_of}
-use Rattle.cs_net.specs.Pins.{count_from}
-use Rattle.cs_net.specs.Places.{place_of}
+use Rattle.cs_modules.specs.Pins.{count_from}
+use Rattle.cs_modules.specs.Places.{place_of}
 
 -- the slot of a signal among those that are driven; a bit that isn't among them is 0
 abbrev pub slot_of : List Signal → Signal → ℕ

@@ -4,7 +4,7 @@ ghost use Rattle.std.specs.List.{enumerate_from, zip};
 ghost use Rattle.cs_cells.specs.Memories.{read_register};
 ghost use Rattle.cs_base.specs.declared.signal.Signal.TheVariants.{Zero};
 ghost use Rattle.cs_net.specs.Drivers.{bits_of, read_data};
-ghost use Rattle.cs_net.specs.Pins.{count_from};
+ghost use Rattle.cs_modules.specs.Pins.{count_from};
 ghost use Rattle.cs_sim.specs.Layout.{driven_signals, layout_of, no_parts, read_bit_of, read_port_slots, start_of, with_cell, with_clocked_read, with_gate, with_memory, with_part, with_read, with_register, with_unclocked_read, with_writes, write_slots};
 
 use crate::layout::{Layout, Part, ReadBit, ReadPortSlots, RegisterSlots, Work, WriteSlots};

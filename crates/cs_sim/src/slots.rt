@@ -3,7 +3,7 @@ ghost use Rattle.std.specs.Prelude.{◌≡◌, ◌-◌, ◌^◌, ◌+◌, ◌<�
 ghost use Rattle.cs_sim.specs.Slots.{bits_from, number_at, slot_of, stored};
 
 use cs_base::Signal;
-use cs_net::Places;
+use cs_modules::Places;
 
 /// The slot of a signal among those that are driven.
 pub(crate) fn slot_of(driven: &Places, signal: Signal) -> usize

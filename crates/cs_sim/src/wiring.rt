@@ -3,14 +3,15 @@ ghost use Rattle.std.specs.Prelude.{◌≡◌, ◌++◌, ◌+◌, ◌<◌, ◌^�
 ghost use Rattle.std.specs.List.{enumerate_from, flat_map, zip};
 ghost use Rattle.cs_cells.specs.Gates.{pin_count, pin_name};
 ghost use Rattle.cs_net.specs.Drivers.{port_part, signal_of};
-ghost use Rattle.cs_net.specs.Pins.{count_from};
+ghost use Rattle.cs_modules.specs.Pins.{count_from};
 ghost use Rattle.cs_sim.specs.Layout.{cell_outputs, driven_signals, memory_outputs};
 ghost use Rattle.cs_sim.specs.Slots.{slot_of as slot_among};
 
 use crate::slots::slot_of;
 use cs_base::{Sequence, Signal};
 use cs_cells::{Class, Kind, MemShape};
-use cs_net::{Cell, Netlist, Places};
+use cs_modules::Places;
+use cs_net::{Cell, Netlist};
 use std::alloc::{AllocError, Global};
 
 // Pushes the data bits of the read ports of a memory, port by port.

@@ -4,16 +4,14 @@ ghost use Rattle.std.specs.HashMap.{get};
 ghost use Rattle.std.specs.Option.{option_and_then, option_or};
 ghost use Rattle.cs_order.specs.Arrangements.{IfLoop, IfOrder};
 ghost use Rattle.cs_order.specs.Graphs.{IsLoop, IsOrder};
-ghost use Rattle.cs_net.specs.Conditions.{number_in};
-ghost use Rattle.cs_net.specs.Drivers.{holds_bit};
+ghost use Rattle.cs_modules.specs.Signals.{number_in, holds_bit};
 ghost use Rattle.cs_net.specs.Elements.{elements_of, graph_of, owner};
 ghost use Rattle.cs_net.specs.Invariant.{HasOrder};
 ghost use Rattle.cs_net.specs.Netlist.{Net};
 
 use crate::elements::Element;
-use crate::numbers::number_in;
-use crate::places::note;
 use cs_base::Signal;
+use cs_modules::{note, number_in};
 use cs_order::{Arrangement, Dependencies, arrange};
 use std::alloc::{AllocError, Global};
 use std::collections::HashMap;

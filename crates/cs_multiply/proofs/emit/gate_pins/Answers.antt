@@ -2,7 +2,7 @@ use Rattle.std.proofs.Common.{rules, get_or, false}
 use Rattle.cs_base.specs.declared.signal.Signal.TheVariants.{Zero}
 use Rattle.cs_cells.specs.Gates.{pin_name}
 use Rattle.cs_multiply.specs.Circuits.{pin}
-use Rattle.cs_net.proofs.Pushed.{one_more_counted}
+use Rattle.cs_modules.proofs.Pushed.{one_more_counted}
 use Rattle.cs_multiply.proofs.emit.gate_pins.Goals as goal
 
 pub loop-i-preserved : goal.loop-i-preserved

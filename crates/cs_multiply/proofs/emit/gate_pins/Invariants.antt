@@ -1,7 +1,7 @@
 use Rattle.std.proofs.Common.{◌≡◌, false, get_or, map}
 use Rattle.cs_base.specs.declared.signal.Signal.TheVariants.{Zero}
 use Rattle.cs_cells.specs.Gates.{pin_name}
-use Rattle.cs_net.specs.Pins.{count_from}
+use Rattle.cs_modules.specs.Pins.{count_from}
 use Rattle.cs_multiply.specs.Circuits.{pin}
 use Rattle.cs_multiply.proofs.emit.gate_pins.Given as goal
 

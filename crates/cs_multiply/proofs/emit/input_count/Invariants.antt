@@ -1,5 +1,5 @@
 use Rattle.std.proofs.Common.{◌≡◌, take}
-use Rattle.cs_net.specs.Conditions.{input_bits_in}
+use Rattle.cs_modules.specs.Modules.{input_bits_in}
 use Rattle.cs_multiply.proofs.emit.input_count.Given as goal
 
 abbrev pub invariant-loop-port : goal.invariant-loop-port

@@ -1,6 +1,6 @@
 use Rattle.std.proofs.Common.{◌≡◌, take}
 use Rattle.std.specs.Prelude.{filter, flat_map}
-use Rattle.cs_net.specs.Drivers.{is_output}
+use Rattle.cs_modules.specs.Signals.{is_output}
 use Rattle.cs_multiply.proofs.parts.port_outputs.Given as goal
 
 abbrev pub invariant-loop-port : goal.invariant-loop-port

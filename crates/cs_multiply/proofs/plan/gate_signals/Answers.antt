@@ -2,7 +2,7 @@ use Rattle.std.proofs.Common.{rules}
 use Rattle.cs_cells.specs.Gates.{pin_name}
 use Rattle.cs_net.specs.Drivers.{signal_of}
 use Rattle.cs_multiply.specs.Written.{written_signal}
-use Rattle.cs_net.proofs.Pushed.{one_more_counted}
+use Rattle.cs_modules.proofs.Pushed.{one_more_counted}
 use Rattle.cs_multiply.proofs.plan.gate_signals.Goals as goal
 
 pub loop-i-preserved : goal.loop-i-preserved

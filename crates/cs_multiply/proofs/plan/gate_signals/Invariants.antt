@@ -1,7 +1,7 @@
 use Rattle.std.proofs.Common.{◌≡◌, map}
 use Rattle.cs_cells.specs.Gates.{pin_name}
 use Rattle.cs_net.specs.Drivers.{signal_of}
-use Rattle.cs_net.specs.Pins.{count_from}
+use Rattle.cs_modules.specs.Pins.{count_from}
 use Rattle.cs_multiply.specs.Written.{written_signal}
 use Rattle.cs_multiply.proofs.plan.gate_signals.Given as goal
 

@@ -1,6 +1,6 @@
 use Rattle.std.proofs.Common.{rules}
 use Rattle.cs_multiply.specs.Written.{stage}
-use Rattle.cs_net.proofs.Pushed.{one_more_counted}
+use Rattle.cs_modules.proofs.Pushed.{one_more_counted}
 use Rattle.cs_multiply.proofs.plan.stages.Goals as goal
 
 pub loop-n-preserved : goal.loop-n-preserved

@@ -1,5 +1,5 @@
 use Rattle.std.proofs.Common.{◌≡◌, map}
-use Rattle.cs_net.specs.Pins.{count_from}
+use Rattle.cs_modules.specs.Pins.{count_from}
 use Rattle.cs_multiply.specs.Written.{stage}
 use Rattle.cs_multiply.proofs.plan.stages.Given as goal
 

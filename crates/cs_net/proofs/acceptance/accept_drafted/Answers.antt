@@ -1,4 +1,4 @@
-use Rattle.cs_net.proofs.Refusals.{no_bad_pins}
+use Rattle.cs_conditions.proofs.Refusals.{no_bad_pins}
 use Rattle.cs_net.proofs.acceptance.accept_drafted.Goals as goal
 
 pub make_draft-requires : goal.make_draft-requires

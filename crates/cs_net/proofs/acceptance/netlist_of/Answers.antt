@@ -1,5 +1,6 @@
 use Rattle.std.proofs.Common.{rules, ◌∙◌, List, ap, filter, flat_map, length, not, subst, sym}
-use Rattle.cs_net.specs.Drivers.{is_clock, is_input, is_output}
+use Rattle.cs_modules.specs.Signals.{is_input, is_output}
+use Rattle.cs_net.specs.Drivers.{is_clock}
 use Rattle.cs_net.specs.declared.netlist.Port.{Port}
 use Rattle.cs_order.specs.Graphs.{IsOrder}
 use Rattle.cs_net.specs.Build.{net_of, places_from}
@@ -8,7 +9,7 @@ use Rattle.cs_net.specs.Invariant.{AreMemoryPlaces}
 use Rattle.cs_net.proofs.MemoryPlaces.{are_memory_places}
 use Rattle.cs_net.specs.Netlist.{bit_at}
 use Rattle.cs_net.proofs.AcceptLemmas.{is_well_formed, narrow_memories, net_by_parts}
-use Rattle.cs_net.proofs.Refusals.{no_bad_pins}
+use Rattle.cs_conditions.proofs.Refusals.{no_bad_pins}
 use Rattle.cs_net.proofs.acceptance.netlist_of.Goals as goal
 
 pub memories-requires-clause-pins : goal.memories-requires-clause-pins

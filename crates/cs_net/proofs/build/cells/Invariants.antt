@@ -1,6 +1,6 @@
 use Rattle.std.proofs.Common.{◌≡◌, ◌++◌, drop, map}
 use Rattle.cs_net.specs.Build.{cell_of}
-use Rattle.cs_net.specs.Conditions.{cells_in}
+use Rattle.cs_modules.specs.Modules.{cells_in}
 use Rattle.cs_net.proofs.build.cells.Given as goal
 
 abbrev pub invariant-loop-decl : goal.invariant-loop-decl

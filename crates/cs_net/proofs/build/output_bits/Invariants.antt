@@ -1,5 +1,5 @@
 use Rattle.std.proofs.Common.{◌≡◌, ◌++◌, drop, filter, flat_map}
-use Rattle.cs_net.specs.Drivers.{is_output}
+use Rattle.cs_modules.specs.Signals.{is_output}
 use Rattle.cs_net.proofs.build.output_bits.Given as goal
 
 abbrev pub invariant-loop-port : goal.invariant-loop-port

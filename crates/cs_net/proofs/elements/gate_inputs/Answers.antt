@@ -1,7 +1,7 @@
 use Rattle.std.proofs.Common.{rules}
 use Rattle.cs_cells.specs.Gates.{pin_name}
 use Rattle.cs_net.specs.Drivers.{signal_of}
-use Rattle.cs_net.proofs.Pushed.{one_more_counted}
+use Rattle.cs_modules.proofs.Pushed.{one_more_counted}
 use Rattle.cs_net.proofs.elements.gate_inputs.Goals as goal
 
 pub loop-p-preserved : goal.loop-p-preserved

@@ -1,7 +1,7 @@
 use Rattle.std.proofs.Common.{◌≡◌, map}
 use Rattle.cs_cells.specs.Gates.{pin_name}
 use Rattle.cs_net.specs.Drivers.{signal_of}
-use Rattle.cs_net.specs.Pins.{count_from}
+use Rattle.cs_modules.specs.Pins.{count_from}
 use Rattle.cs_net.proofs.elements.gate_inputs.Given as goal
 
 abbrev pub invariant-loop-p : goal.invariant-loop-p

@@ -1,6 +1,6 @@
 use Rattle.std.proofs.Common.{nat_eq, ◌∙◌}
 use Rattle.std.specs.HashMap.{get}
-use Rattle.cs_net.proofs.FirstValues.{starts_of_module}
+use Rattle.cs_net.proofs.RegisterStarts.{starts_of_module}
 use Rattle.cs_net.proofs.initial_values.initial_values.Goals as goal
 
 pub returns : goal.returns

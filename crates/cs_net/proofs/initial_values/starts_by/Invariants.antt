@@ -1,7 +1,7 @@
 use Rattle.std.proofs.Common.{◌≡◌, ◌++◌, [], drop}
 use Rattle.std.specs.Prelude.{codes, filter_map, flat_map, if◌then◌else◌}
-use Rattle.cs_net.specs.Conditions.{is_register}
-use Rattle.cs_net.specs.Pins.{class_at, pin_bits}
+use Rattle.cs_modules.specs.Modules.{is_register}
+use Rattle.cs_modules.specs.Pins.{class_at, pin_bits}
 use Rattle.cs_net.specs.Starts.{noted_value, start_by}
 use Rattle.cs_net.proofs.initial_values.starts_by.Given as goal
 

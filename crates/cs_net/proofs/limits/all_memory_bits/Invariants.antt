@@ -1,6 +1,7 @@
 use Rattle.std.proofs.Common.{◌≡◌, ◌+◌, ◌≤◌, None, drop, find, map, min, nat_lt}
 use Rattle.std.specs.Prelude.{sum}
-use Rattle.cs_net.specs.Accept.{memory_bits, shapes_in}
+use Rattle.cs_modules.specs.Memories.{shapes_in}
+use Rattle.cs_net.specs.Accept.{memory_bits}
 use Rattle.cs_net.proofs.limits.all_memory_bits.Given as goal
 
 -- what is counted and what is left make the whole

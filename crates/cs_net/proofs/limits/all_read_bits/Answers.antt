@@ -1,7 +1,8 @@
 use Rattle.std.proofs.Common.{◌≡◌, ◌∙◌, ◌+◌, arith, map, min, sym}
 use Rattle.std.specs.Prelude.{sum}
 use Rattle.std.proofs.lemmas.List.{at_drop_all}
-use Rattle.cs_net.specs.Accept.{read_bits, shapes_in}
+use Rattle.cs_modules.specs.Memories.{shapes_in}
+use Rattle.cs_net.specs.Accept.{read_bits}
 use Rattle.cs_net.proofs.limits.all_read_bits.Goals as goal
 
 pub returns : goal.returns

@@ -1,6 +1,7 @@
 use Rattle.std.proofs.Common.{◌≡◌, ◌+◌, ◌≤◌, drop, map, min}
 use Rattle.std.specs.Prelude.{sum}
-use Rattle.cs_net.specs.Accept.{read_bits, shapes_in}
+use Rattle.cs_modules.specs.Memories.{shapes_in}
+use Rattle.cs_net.specs.Accept.{read_bits}
 use Rattle.cs_net.proofs.limits.all_read_bits.Given as goal
 
 -- what is counted and what is left make the whole

@@ -1,5 +1,5 @@
 use Rattle.std.proofs.Common.{◌≡◌, drop, find, nat_lt}
-use Rattle.cs_net.specs.Accept.{shapes_in}
+use Rattle.cs_modules.specs.Memories.{shapes_in}
 use Rattle.cs_net.proofs.limits.wide_address.Given as goal
 
 abbrev pub invariant-loop-shape : goal.invariant-loop-shape

@@ -1,9 +1,9 @@
 use Rattle.std.proofs.Common.{◌∙◌, ◌+◌, ◌++◌, ap, drop, filter_map, sym}
 use Rattle.cs_net.specs.Build.{words_by}
-use Rattle.cs_net.specs.Conditions.{cells_in}
-use Rattle.cs_net.specs.Pins.{class_at}
-use Rattle.cs_net.proofs.MadeLists.{next_kept, next_passed}
-use Rattle.cs_net.proofs.MemoryRules.{cells_from, narrow_later, right_here, right_later}
+use Rattle.cs_modules.specs.Modules.{cells_in}
+use Rattle.cs_modules.specs.Pins.{class_at}
+use Rattle.cs_modules.proofs.MadeLists.{next_kept, next_passed}
+use Rattle.cs_conditions.proofs.MemoryRules.{cells_from, narrow_later, right_here, right_later}
 use Rattle.cs_net.proofs.memories.memories.Goals as goal
 use Rattle.cs_net.proofs.memories.memories.Goals.{in-Some+in_ok-push, in_default}
 

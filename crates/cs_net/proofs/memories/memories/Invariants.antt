@@ -1,8 +1,8 @@
 use Rattle.std.proofs.Common.{◌≡◌, ◌++◌, None, drop, filter_map, find, map, nat_lt, not}
-use Rattle.cs_net.specs.Accept.{shapes_in}
-use Rattle.cs_net.specs.Build.{shape_of, words_by}
-use Rattle.cs_net.specs.Conditions.{cells_in, has_right_pins}
-use Rattle.cs_net.specs.Pins.{class_at}
+use Rattle.cs_modules.specs.Memories.{shapes_in, shape_of}
+use Rattle.cs_net.specs.Build.{words_by}
+use Rattle.cs_modules.specs.Modules.{cells_in}
+use Rattle.cs_modules.specs.Pins.{has_right_pins, class_at}
 use Rattle.cs_net.proofs.memories.memories.Given as goal
 
 abbrev pub invariant-loop-cell : goal.invariant-loop-cell

@@ -1,9 +1,9 @@
 use Rattle.std.proofs.Common.{◌∙◌, ap, sym}
-use Rattle.cs_net.specs.Build.{shape_of}
-use Rattle.cs_net.specs.Conditions.{cells_in}
+use Rattle.cs_modules.specs.Memories.{shape_of}
+use Rattle.cs_modules.specs.Modules.{cells_in}
 use Rattle.std.proofs.Common.{map, drop, ◌+◌, ◌∷◌, ◌++◌, []}
-use Rattle.cs_net.proofs.MadeLists.{next_mapped}
-use Rattle.cs_net.proofs.MemoryRules.{cells_from, right_here, right_later}
+use Rattle.cs_modules.proofs.MadeLists.{next_mapped}
+use Rattle.cs_conditions.proofs.MemoryRules.{cells_from, right_here, right_later}
 use Rattle.cs_net.proofs.memories.shapes.Goals as goal
 
 pub shape-requires : goal.shape-requires

@@ -1,6 +1,7 @@
 use Rattle.std.proofs.Common.{◌≡◌, ◌++◌, None, drop, find, map, not}
-use Rattle.cs_net.specs.Build.{shape_of}
-use Rattle.cs_net.specs.Conditions.{cells_in, has_right_pins}
+use Rattle.cs_modules.specs.Memories.{shape_of}
+use Rattle.cs_modules.specs.Modules.{cells_in}
+use Rattle.cs_modules.specs.Pins.{has_right_pins}
 use Rattle.cs_net.proofs.memories.shapes.Given as goal
 
 abbrev pub invariant-loop-cell : goal.invariant-loop-cell

@@ -1,5 +1,5 @@
 use Rattle.std.proofs.Common.{◌≡◌, map}
-use Rattle.cs_net.specs.Pins.{count_from}
+use Rattle.cs_modules.specs.Pins.{count_from}
 use Rattle.cs_sim.specs.Layout.{write_slots}
 use Rattle.cs_sim.proofs.building.all_write_slots.Given as goal
 

@@ -1,6 +1,6 @@
 use Rattle.std.proofs.Common.{◌≡◌, ℕ, ◌+◌, ◌≤◌, get_or, length, map, ap, ◌∙◌, arith}
 use Rattle.cs_cells.specs.Gates.{gate_value}
-use Rattle.cs_net.specs.Pins.{count_from}
+use Rattle.cs_modules.specs.Pins.{count_from}
 use Rattle.cs_sim.specs.Slots.{value_at}
 use Rattle.cs_sim.proofs.Capped.{few_pins, filled}
 use Rattle.cs_sim.proofs.settle.gate_output.Goals as goal

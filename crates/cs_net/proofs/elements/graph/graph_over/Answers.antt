@@ -1,7 +1,7 @@
 use Rattle.std.proofs.Common.{ap, filter_map, map, nat_eq, ◌∙◌}
 use Rattle.std.specs.HashMap.{get}
 use Rattle.std.specs.Option.{option_and_then}
-use Rattle.cs_net.specs.Conditions.{number_in}
+use Rattle.cs_modules.specs.Signals.{number_in}
 use Rattle.cs_net.specs.Elements.{sources}
 use Rattle.cs_net.proofs.ElementGraphs.{all_added, next_vertex, one_longer}
 use Rattle.cs_net.proofs.elements.graph.graph_over.Goals as goal

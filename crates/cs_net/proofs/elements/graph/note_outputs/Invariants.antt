@@ -2,7 +2,7 @@ use Rattle.std.proofs.Common.{◌≡◌, ℕ, Some, None, drop, nat_eq}
 use Rattle.std.specs.Prelude.{if◌then◌else◌}
 use Rattle.std.specs.HashMap.{get}
 use Rattle.std.specs.Option.{option_or}
-use Rattle.cs_net.specs.Drivers.{holds_bit}
+use Rattle.cs_modules.specs.Signals.{holds_bit}
 use Rattle.cs_net.proofs.elements.graph.note_outputs.Given as goal
 
 -- a bit without an owner has this one if it is among the outputs that are left

@@ -2,7 +2,7 @@ use Rattle.std.proofs.Common.{◌≡◌, ℕ, drop, nat_eq}
 use Rattle.std.specs.HashMap.{get}
 use Rattle.std.specs.List.{position_from}
 use Rattle.std.specs.Option.{option_or}
-use Rattle.cs_net.specs.Drivers.{holds_bit}
+use Rattle.cs_modules.specs.Signals.{holds_bit}
 use Rattle.cs_net.specs.Elements.{owner}
 use Rattle.cs_net.proofs.elements.graph.owners.Given as goal
 

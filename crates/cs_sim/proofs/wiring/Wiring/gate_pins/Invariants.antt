@@ -1,7 +1,7 @@
 use Rattle.std.proofs.Common.{◌≡◌, map}
 use Rattle.cs_cells.specs.Gates.{pin_name}
 use Rattle.cs_net.specs.Drivers.{signal_of}
-use Rattle.cs_net.specs.Pins.{count_from}
+use Rattle.cs_modules.specs.Pins.{count_from}
 use Rattle.cs_sim.specs.Slots.{slot_of}
 use Rattle.cs_sim.proofs.wiring.Wiring.gate_pins.Given as goal
 

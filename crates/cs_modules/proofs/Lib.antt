@@ -1,0 +1,10 @@
+pub mod BinaryDigits
+pub mod Connections
+pub mod TopModule
+pub mod Values
+pub mod FirstPlaces
+pub mod FirstValues
+pub mod GatePins
+pub mod WidthLemmas
+pub mod Pushed
+pub mod MadeLists

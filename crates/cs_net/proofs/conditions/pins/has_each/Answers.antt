@@ -1,6 +1,0 @@
-use Rattle.std.proofs.Common.{◌∙◌}
-use Rattle.cs_net.proofs.WidthLemmas.{each_in}
-use Rattle.cs_net.proofs.conditions.pins.has_each.Goals as goal
-
-pub returns : goal.returns
-returns c = c.has_each_named.ensures ∙ each_in c.args.pins.now c.args.widths.now

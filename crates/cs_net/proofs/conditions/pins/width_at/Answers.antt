@@ -1,6 +1,0 @@
-use Rattle.std.proofs.Common.{◌∙◌}
-use Rattle.cs_net.proofs.WidthLemmas.{width_in}
-use Rattle.cs_net.proofs.conditions.pins.width_at.Goals as goal
-
-pub returns : goal.returns
-returns c = c.width_named.ensures ∙ width_in c.args.name.now c.args.widths.now
