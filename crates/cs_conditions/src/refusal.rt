@@ -19,7 +19,8 @@ use crate::ports::inout;
 use crate::starts::two_starts;
 use cs_json::Module;
 use cs_modules::{
-    ClockBit, PinBit, bits_of_cells, clock_bits, clock_by_pins, driven_numbers, input_numbers, number_set,
+    ClockBit, PinBit, bits_of_cells, clock_bits, clock_by_pins, driven_numbers, input_numbers,
+    number_set,
 };
 use indexmap::IndexSet;
 use std::alloc::{AllocError, Global};

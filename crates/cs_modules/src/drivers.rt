@@ -38,11 +38,7 @@ fn output_numbers(alloc: Global, bits: &[PinBit]) -> Result<Vec<u32>, AllocError
 }
 
 /// The number of each bit as often as an input port or an output pin drives it.
-pub fn driven_numbers(
-    alloc: Global,
-    top: &Module,
-    bits: &[PinBit],
-) -> Result<Vec<u32>, AllocError>
+pub fn driven_numbers(alloc: Global, top: &Module, bits: &[PinBit]) -> Result<Vec<u32>, AllocError>
     requires { bits.now ≡ bits_of_cells top.now.cells }
     ensures { IfOk result (λ numbers. numbers.items ≡ filter_map number_in (driven_signals top.now)) }
 {

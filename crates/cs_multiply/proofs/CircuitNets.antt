@@ -18,7 +18,7 @@ use Rattle.cs_net.specs.declared.state.BitValue.{BitValue}
 use Rattle.cs_net.specs.Netlist.{bit_at}
 use Rattle.cs_modules.specs.Signals.{is_bit, is_input, is_output, holds_bit, number_in}
 use Rattle.cs_net.specs.Drivers.{gate, driver_of, data_inputs, data_outputs, register_of, signal_of, is_clock, memory_read_starts, fanin}
-use Rattle.cs_net.specs.Invariant.{HasOrder}
+use Rattle.cs_net.specs.Invariant.{HasBitOrder}
 use Rattle.cs_modules.specs.Pins.{class_at, count_from}
 use Rattle.cs_modules.specs.Places.{place_of}
 use Rattle.cs_modules.specs.Modules.{input_bits_in, output_bits_in, initial_value, init_values}
@@ -309,7 +309,7 @@ module _ (k : Circuit) (is : IsCircuit k) where
       sym (ap (λ d. holds_bit a (fanin d)) (sym (ap (driver_of (net_of made)) bit) ∙ gate_driver p held.0)) ∙ depends in
       subst (λ n. rank a < rank n) bit (subst (λ n. rank a < n) (sym (rank_of_gate p held.0)) (after_pins p a held.0 pins))
 
-  pub order_of_made : HasOrder (net_of made)
+  pub order_of_made : HasBitOrder (net_of made)
   order_of_made = record {
     place = rank;
     order = λ b a depends. ranked b a (find (λ p. is_bit b (Bit (gate_bit k p))) (gate_places k is)) refl depends;

@@ -29,7 +29,7 @@ use Rattle.cs_conditions.specs.Conditions.{or_else, error_if, bad_pins, inout, i
 use Rattle.cs_modules.specs.Modules.{cells_of, is_scope, input_bits, output_bits, ClockPin, clock_pin, clock_pins, first_clock, clock_of, reads_as_data, connections_of}
 use Rattle.cs_modules.specs.Memories.{shape_of}
 use Rattle.cs_net.specs.Build.{net_of, port_of, cell_of}
-use Rattle.cs_net.specs.Invariant.{HasOrder, IsWellFormed}
+use Rattle.cs_net.specs.Invariant.{HasBitOrder, IsWellFormed}
 use Rattle.std.proofs.lemmas.List.{length-map}
 use Rattle.cs_net.proofs.Members.{append_all}
 use Rattle.cs_net.proofs.PinLemmas.{same_port_bits}
@@ -76,7 +76,7 @@ pub record NetFacts (net : Net) : Type 0 where
   pub clocking : NetClocking net
   pub names : AllByRecursion (λ p. is_reserved net.clock (decl_of p) ≡ false) net.ports
   pub names_order : AreInOrder (λ (p : Port). p.name) net.ports
-  pub order : HasOrder net
+  pub order : HasBitOrder net
   -- no memory has a clocked read
   pub reads : flat_map memory_read_starts (zip net.cells net.shapes) ≡ []
 
@@ -365,7 +365,7 @@ module _ (m : Module) (readable : IsModule m) (early : early_refusal m ≡ None)
   unfolding reserved
   free_ports = all_fail (λ p. is_reserved (clock_of m) p) m.ports (none_of_map _ _ free)
 
-  pub facts_of_module : HasOrder (net_of m) → NetFacts (net_of m)
+  pub facts_of_module : HasBitOrder (net_of m) → NetFacts (net_of m)
   unfolding net_of
   facts_of_module order = record {
     shapes = length-map (cells_of m) shape_of ∙ sym (length-map (cells_of m) cell_of);
@@ -386,4 +386,4 @@ facts_of_net net w plain =
     subst NetFacts (sym w.is)
     (facts_of_module w.«module» w.readable w.early w.not_reserved
     (subst (λ (n : Net). AllByRecursion (λ cell. is_plain cell.class ≡ true) n.cells) w.is plain)
-    (subst HasOrder w.is w.order))
+    (subst HasBitOrder w.is w.order))

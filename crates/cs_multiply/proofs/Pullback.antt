@@ -8,7 +8,7 @@ use Rattle.cs_base.specs.declared.signal.Signal.TheVariants.{Zero, One, Unknown,
 use Rattle.cs_cells.specs.declared.register.ResetKind.{ResetKind}
 use Rattle.cs_cells.specs.Gates.{gate_value}
 use Rattle.cs_cells.specs.Registers.{next_value}
-use Rattle.cs_net.specs.Netlist.{Net, State, state_of}
+use Rattle.cs_net.specs.Netlist.{Net, NetState, state_of}
 use Rattle.cs_net.specs.Drivers.{driver_of, data_outputs, own_start}
 use Rattle.cs_net.specs.Contexts.{no_images}
 use Rattle.cs_net.specs.Isolates.{Isolates}
@@ -26,7 +26,7 @@ unfolding next_value
 plain_next over rising reset enable d q e r no_reset no_enable =
     rw (no_reset, no_enable) (elim over as (λ o. next_value (record { rising = rising; reset = None; enable = None; enable_over_reset = o }) d q e r ≡ d) [ true ↦ refl | false ↦ refl ])
 
-next_at : (net : Net) (b : ℕ) (d : Signal) (plain : IsPlainRegister net b d) (now : State) (v : Valuation) →
+next_at : (net : Net) (b : ℕ) (d : Signal) (plain : IsPlainRegister net b d) (now : NetState) (v : Valuation) →
     (next_state net now v).bit b ≡ signal_value v d
 next_at net b d plain now v =
     let k = plain.element.kind in
@@ -36,7 +36,7 @@ next_at net b d plain now v =
 
 -- ---- a trace of the written netlist
 
-module _ (written : Net) (from : State) (rows : List Row) (bits : ℕ → Valuation) (state : ℕ → State) (t : IsTrace written from rows bits state) where
+module _ (written : Net) (from : NetState) (rows : List Row) (bits : ℕ → Valuation) (state : ℕ → NetState) (t : IsTrace written from rows bits state) where
   -- a register has in each clock what it holds
   held : (n b : ℕ) (d : Signal) → IsPlainRegister written b d → n < length rows → bits n b ≡ (state n).bit b
   held n b d plain below = t.settles n below b ∙ ap (λ driver. value_by driver b (get_or rows n []) (state n) (bits n)) plain.drives
@@ -45,7 +45,7 @@ module _ (written : Net) (from : State) (rows : List Row) (bits : ℕ → Valuat
   shifted : (n b : ℕ) (d : Signal) → IsPlainRegister written b d → suc n < length rows → bits (suc n) b ≡ signal_value (bits n) d
   shifted n b d plain below =
       held (suc n) b d plain below
-      ∙ ap (λ (s : State). s.bit b) (t.goes_on n (omega arith))
+      ∙ ap (λ (s : NetState). s.bit b) (t.goes_on n (omega arith))
       ∙ next_at written b d plain (state n) (bits n)
 
   module _ (c : ℕ) (start : Bool) (d q : Signal) (series : IsSeries written c start d q) where
@@ -70,7 +70,7 @@ module _ (written : Net) (from : State) (rows : List Row) (bits : ℕ → Valuat
     -- before that each stage has the start
     at_start : from ≡ state_of (own_start written) → (n j : ℕ) → n ≤ j → j < c → n < length rows → bits n (series.stage j) ≡ start
     at_start own zero j late small below =
-        held_any j small 0 below ∙ ap (λ (s : State). s.bit (series.stage j)) (t.begins ∙ own) ∙ series.starts j small
+        held_any j small 0 below ∙ ap (λ (s : NetState). s.bit (series.stage j)) (t.begins ∙ own) ∙ series.starts j small
       where
         held_any : (j : ℕ) → j < c → (n : ℕ) → n < length rows → bits n (series.stage j) ≡ (state n).bit (series.stage j)
         held_any zero small n below = held n (series.stage 0) d series.first below
@@ -98,14 +98,14 @@ seen_signals : (wire : ℕ → Signal) (v : Valuation) (signals : List Signal) �
 seen_signals wire v [] = refl
 seen_signals wire v (s ∷ ss) = let first = seen_signal wire v s in let rest = seen_signals wire v ss in cc
 
-quiet_value : (written : Net) (row : Row) (now : State) (v : Valuation) (s : Signal) → Settles written row now v → IsQuiet written s → signal_value v s ≡ false
+quiet_value : (written : Net) (row : Row) (now : NetState) (v : Valuation) (s : Signal) → Settles written row now v → IsQuiet written s → signal_value v s ≡ false
 quiet_value written row now v s settles (inl zero_signal) = ap (signal_value v) zero_signal
 quiet_value written row now v s settles (inr (b, is, free)) =
     ap (signal_value v) is ∙ settles b ∙ ap (λ driver. value_by driver b row now v) free
 
-module _ (net written : Net) (c : ℕ) (wire : ℕ → Signal) (row : Row) (now : State) (v : Valuation) (settles : Settles written row now v) where
+module _ (net written : Net) (c : ℕ) (wire : ℕ → Signal) (row : Row) (now : NetState) (v : Valuation) (settles : Settles written row now v) where
   -- a bit that is no register has the value that its driver gives it
-  seen_value : (here : State) → ((b : ℕ) (d : Signal) → IsPlainRegister net b d → IsSeries written c (start_value net b) (rewired wire d) (wire b) → here.bit b ≡ seen_by wire v b) →
+  seen_value : (here : NetState) → ((b : ℕ) (d : Signal) → IsPlainRegister net b d → IsSeries written c (start_value net b) (rewired wire d) (wire b) → here.bit b ≡ seen_by wire v b) →
       (b : ℕ) → IsCarried net written c wire b → seen_by wire v b ≡ value_by (driver_of net b) b row here (seen_by wire v)
   unfolding seen_by
   seen_value here holds b (no_driver free quiet) =
@@ -122,13 +122,13 @@ module _ (net written : Net) (c : ℕ) (wire : ℕ → Signal) (row : Row) (now 
 
 -- ---- the trace of a context
 
-module _ (net written : Net) (c : ℕ) (wire : ℕ → Signal) (m : Multiplies net written c wire) (rows : List Row) (bits : ℕ → Valuation) (state : ℕ → State)
+module _ (net written : Net) (c : ℕ) (wire : ℕ → Signal) (m : Multiplies net written c wire) (rows : List Row) (bits : ℕ → Valuation) (state : ℕ → NetState)
     (t : IsTrace written (state_of (own_start written)) rows bits state) (k : ℕ) (small : k < c) where
   -- the bits in cycle i of the context
   context_bits : ℕ → Valuation
   context_bits i = seen_by wire (bits (i * c + k))
 
-  context_state : ℕ → State
+  context_state : ℕ → NetState
   context_state zero = state_of (own_start net)
   context_state (suc i) = next_state net (context_state i) (context_bits i)
 

@@ -5,7 +5,7 @@ use Rattle.cs_base.specs.declared.signal.Signal.TheVariants.{Zero, One, Unknown,
 use Rattle.cs_cells.specs.declared.gate.Kind.{Kind}
 use Rattle.cs_net.specs.Netlist.{Net, state_of}
 use Rattle.cs_net.specs.Drivers.{StateElement, from_signal, undriven, input, gate, register, driver_of, data_outputs, own_start}
-use Rattle.cs_net.specs.Invariant.{HasOrder}
+use Rattle.cs_net.specs.Invariant.{HasBitOrder}
 use Rattle.cs_net.specs.Isolates.{data_ports}
 
 -- what the signal of the one netlist is in the other, where `wire` says it of bits; `x` and `z` become 0
@@ -55,4 +55,4 @@ pub record Multiplies (net written : Net) (c : ℕ) (wire : ℕ → Signal) : Ty
   pub each : (b : ℕ) → IsCarried net written c wire b
   pub outputs : data_outputs written ≡ map (rewired wire) (data_outputs net)
   pub ports : data_ports written ≡ data_ports net
-  pub order : HasOrder written
+  pub order : HasBitOrder written

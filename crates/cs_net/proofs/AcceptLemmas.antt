@@ -21,7 +21,7 @@ use Rattle.cs_net.specs.Accept.{HasNoLoop, IsAccepted, Refuses, RefusesLate, Ref
 use Rattle.cs_net.specs.Build.{cell_of, net_of, port_of, words_by}
 use Rattle.cs_conditions.specs.Conditions.{early_refusal, is_reserved, reserved}
 use Rattle.cs_modules.specs.Modules.{cells_of, clock_of, is_marked, only_marked, only_one, top_of}
-use Rattle.cs_net.specs.Invariant.{HasOrder, IsSound, IsWellFormed}
+use Rattle.cs_net.specs.Invariant.{HasBitOrder, IsSound, IsWellFormed}
 use Rattle.cs_net.specs.Netlist.{Net}
 use Rattle.cs_modules.specs.Pins.{class_at}
 use Rattle.cs_net.proofs.LimitLemmas.{all_narrow}
@@ -54,13 +54,13 @@ is_well_formed m readable early sound net is = record {
   early = early;
   not_reserved = sound.not_reserved;
   is = is;
-  order = subst HasOrder (sym is) sound.order;
+  order = subst HasBitOrder (sym is) sound.order;
   within = subst (λ n. limit_fault n ≡ None) (sym is) sound.within;
 }
 
 -- ---- late refusals
 
-pub reserved_late : (m : Module) (e : NetError) → HasOrder (net_of m) → reserved m ≡ Some e → RefusesLate m e
+pub reserved_late : (m : Module) (e : NetError) → HasBitOrder (net_of m) → reserved m ≡ Some e → RefusesLate m e
 unfolding reserved
 reserved_late m e order is = by (find (λ p. is_reserved (clock_of m) p) m.ports) is
   where

@@ -1,7 +1,7 @@
 -- What a netlist answers, a row at a time.
 use Rattle.std.proofs.Common.{◌≡◌, ℕ, zero, suc, ◌<◌, List, [], ◌∷◌, length, map, None, refl, sym, ap, ap₂, subst, ◌∙◌, arith, false}
-use Rattle.cs_net.specs.Netlist.{Net, State, state_of}
-use Rattle.cs_net.specs.Drivers.{IsOrder, own_start}
+use Rattle.cs_net.specs.Netlist.{Net, NetState, state_of}
+use Rattle.cs_net.specs.Drivers.{IsBitOrder, own_start}
 use Rattle.cs_net.specs.Trace.{Row, Valuation, next_state, Settles, IsTrace, output_row, output_rows, Answers, AreSteps}
 use Rattle.cs_net.specs.Contexts.{with_images, no_images, start_of}
 use Rattle.cs_net.specs.Isolates.{Isolates}
@@ -17,7 +17,7 @@ front a f zero = a
 front a f (suc n) = f n
 
 module _ (net : Net) where
-  pub answers_none : (from : State) → Answers net from [] []
+  pub answers_none : (from : NetState) → Answers net from [] []
   answers_none from = record {
     bits = λ n b. false;
     state = λ n. from;
@@ -25,7 +25,7 @@ module _ (net : Net) where
     shows = refl;
   }
 
-  begins_before : (from : State) (row : Row) (rows : List Row) (v : Valuation) (bits : ℕ → Valuation) (state : ℕ → State) → Settles net row from v → IsTrace net (next_state net from v) rows bits state → IsTrace net from (row ∷ rows) (front v bits) (front from state)
+  begins_before : (from : NetState) (row : Row) (rows : List Row) (v : Valuation) (bits : ℕ → Valuation) (state : ℕ → NetState) → Settles net row from v → IsTrace net (next_state net from v) rows bits state → IsTrace net from (row ∷ rows) (front v bits) (front from state)
   begins_before from row rows v bits state settles t = record {
     begins = refl;
     settles = elim [ zero ↦ λ h. settles | suc n ↦ λ h. t.settles n (omega arith) ];
@@ -33,7 +33,7 @@ module _ (net : Net) where
   }
 
   -- a clock, and what is answered from the state after it
-  pub answers_more : (from : State) (row : Row) (rows answer : List Row) (v : Valuation) → Settles net row from v → Answers net (next_state net from v) rows answer → Answers net from (row ∷ rows) (output_row net v ∷ answer)
+  pub answers_more : (from : NetState) (row : Row) (rows answer : List Row) (v : Valuation) → Settles net row from v → Answers net (next_state net from v) rows answer → Answers net from (row ∷ rows) (output_row net v ∷ answer)
   answers_more from row rows answer v settles a = record {
     bits = front v a.bits;
     state = front from a.state;
@@ -41,7 +41,7 @@ module _ (net : Net) where
     shows = ap (λ rest. output_row net v ∷ rest) a.shows;
   }
 
-  goes_after : (from : State) (row : Row) (rows : List Row) (bits : ℕ → Valuation) (state : ℕ → State) → IsTrace net from (row ∷ rows) bits state → IsTrace net (next_state net from (bits 0)) rows (λ n. bits (suc n)) (λ n. state (suc n))
+  goes_after : (from : NetState) (row : Row) (rows : List Row) (bits : ℕ → Valuation) (state : ℕ → NetState) → IsTrace net from (row ∷ rows) bits state → IsTrace net (next_state net from (bits 0)) rows (λ n. bits (suc n)) (λ n. state (suc n))
   goes_after from row rows bits state t = record {
     begins = t.goes_on 0 (omega arith) ∙ ap (λ now. next_state net now (bits 0)) t.begins;
     settles = λ n h. t.settles (suc n) (omega arith);
@@ -57,13 +57,13 @@ module _ (net : Net) where
       let rest = output_rows_same count (λ n. f (suc n)) (λ n. g (suc n)) (λ n below. h (suc n) (omega arith)) in
       ap₂ (λ v answer. output_row net v ∷ answer) first rest
 
-  module _ (place : ℕ → ℕ) (order : IsOrder net place) where
-    pub same_answer : (rows : List Row) (from : State) (one other : List Row) → Answers net from rows one → Answers net from rows other → one ≡ other
+  module _ (place : ℕ → ℕ) (order : IsBitOrder net place) where
+    pub same_answer : (rows : List Row) (from : NetState) (one other : List Row) → Answers net from rows one → Answers net from rows other → one ≡ other
     same_answer rows from one other a b =
         let same = traces_agree net place order from rows a.bits b.bits a.state b.state a.trace b.trace in
         a.shows ∙ output_rows_same (length rows) a.bits b.bits same.same_bits ∙ sym b.shows
 
-    pub answer_exists : (rows : List Row) (from : State) → (answer : List Row) × Answers net from rows answer
+    pub answer_exists : (rows : List Row) (from : NetState) → (answer : List Row) × Answers net from rows answer
     answer_exists [] from = ([], answers_none from)
     answer_exists (row ∷ rows) from =
         let v : Valuation = settled net row from place order in
@@ -92,7 +92,7 @@ pub start_without_images : (net : Net) (k : ℕ) → start_of net (no_images net
 start_without_images net k = ap (λ memories. state_of (record { bits = (own_start net).bits; memories = memories })) (no_change k net.memories)
 
 -- a netlist without loops isolates itself
-pub isolates_itself : (net : Net) (place : ℕ → ℕ) → IsOrder net place → Isolates net net (no_images net) 1
+pub isolates_itself : (net : Net) (place : ℕ → ℕ) → IsBitOrder net place → Isolates net net (no_images net) 1
 isolates_itself net place order = record {
   ports = refl;
   each = λ rows widths.

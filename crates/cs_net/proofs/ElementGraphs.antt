@@ -19,7 +19,7 @@ use Rattle.cs_base.proofs.ListLemmas.{at_contains}
 use Rattle.cs_net.specs.declared.elements.Element.{Element}
 use Rattle.cs_modules.specs.Signals.{number_in, holds_bit, is_bit}
 use Rattle.cs_net.specs.Elements.{elements_of, graph_of, owner, sources}
-use Rattle.cs_net.specs.Invariant.{HasOrder}
+use Rattle.cs_net.specs.Invariant.{HasBitOrder}
 use Rattle.cs_net.specs.Netlist.{Net}
 use Rattle.cs_net.proofs.ElementLemmas.{fanin_of_driver, inputs_for}
 use Rattle.cs_modules.proofs.FirstPlaces.{left_at}
@@ -176,7 +176,7 @@ bit_before es order b a h holds = elim (first_of (λ (e : Element). holds_bit b 
 
 -- an order of the elements is one of the netlist's bits
 pub order_of_elements : (net : Net) (order : List ℕ) → IsOrder (graph_of (elements_of net)) order →
-    HasOrder net
+    HasBitOrder net
 order_of_elements net order h = record {
   place = place_by (elements_of net) order;
   order = λ b a depends.
@@ -187,7 +187,7 @@ order_of_elements net order h = record {
 pub bits_arranged : (es : List Element) (g : Graph) (arranged : Result Arrangement AllocError) →
     g ≡ graph_of es →
     IfOk arranged (λ a. IfOrder a (IsOrder g)) →
-    IfOk arranged (λ a. IfOrder a (λ _. (net : Net) → es ≡ elements_of net → HasOrder net))
+    IfOk arranged (λ a. IfOrder a (λ _. (net : Net) → es ≡ elements_of net → HasBitOrder net))
 bits_arranged es g (Ok (Order order)) is h = λ net same.
     let P : Graph → Type 0 = λ g. IsOrder g order.items in
     order_of_elements net order.items (subst P (is ∙ ap graph_of same) h)

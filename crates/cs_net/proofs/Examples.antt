@@ -21,7 +21,7 @@ use Rattle.cs_cells.specs.Classes.{class_of}
 use Rattle.cs_conditions.specs.declared.error.NetError.{NetError}
 use Rattle.cs_conditions.specs.declared.error.NetError.TheVariants.{NotFine, BadPins, TwoDrivers, TwoClocks, ClockAsData, TwoStarts, MemoryForm, Reserved}
 use Rattle.cs_net.specs.declared.images.Images.{Images}
-use Rattle.cs_net.specs.Netlist.{Net, State}
+use Rattle.cs_net.specs.Netlist.{Net, NetState}
 use Rattle.cs_net.specs.Drivers.{driver_of}
 use Rattle.cs_conditions.specs.Conditions.{early_refusal, reserved, or_else}
 use Rattle.cs_net.specs.Build.{net_of}
@@ -159,7 +159,7 @@ loop_of_inverters = (3 ∷ 4 ∷ [], record { loop = (refl, refl); of_it = refl;
 -- ---- what they answer
 
 -- what a netlist answers, where bits depend on others no more than 4 deep
-answer : Net → State → List Row → List Row
+answer : Net → NetState → List Row → List Row
 answer net now [] = []
 answer net now (row ∷ rows) =
     let v : ℕ → Bool = value_within net row now 4 in output_row net v ∷ answer net (next_state net now v) rows

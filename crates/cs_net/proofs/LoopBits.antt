@@ -13,7 +13,7 @@ use Rattle.cs_order.proofs.CallerLemmas.{depends_within}
 use Rattle.cs_base.proofs.ListLemmas.{contains_at, same_element}
 use Rattle.cs_net.specs.declared.elements.Element.{Element}
 use Rattle.cs_modules.specs.Signals.{number_in, holds_bit, is_bit}
-use Rattle.cs_net.specs.Drivers.{IsChain, IsLoop, depends_on}
+use Rattle.cs_net.specs.Drivers.{IsBitChain, IsBitLoop, depends_on}
 use Rattle.cs_net.specs.Elements.{elements_of, graph_of, owner, sources}
 use Rattle.cs_net.specs.Netlist.{Net}
 use Rattle.cs_net.proofs.ElementLemmas.{element_that_drives, fanin_of_driver}
@@ -118,7 +118,7 @@ pub record WalkBits (net : Net) (v : ℕ) (vs : List ℕ) (w : ℕ) : Type 0 whe
   pub first : ℕ
   pub rest : List ℕ
   pub read : ReadsBit (elements_of net) v first
-  pub chain : (a : ℕ) → ReadsBit (elements_of net) w a → IsChain net (first ∷ rest) a
+  pub chain : (a : ℕ) → ReadsBit (elements_of net) w a → IsBitChain net (first ∷ rest) a
   pub driven : (u : ℕ) → Has (vs ++ w ∷ []) u
       → (b : ℕ) × Has (first ∷ rest) b × DrivesBit (elements_of net) u b
 
@@ -192,7 +192,7 @@ pub record IsLinked (net : Net) (bits : List ℕ) (x : ℕ) : Type 0 where
 -- the bits of a loop, with all its vertices
 pub record LoopBits (net : Net) (vs : List ℕ) : Type 0 where
   pub bits : List ℕ
-  pub loop : IsLoop net bits
+  pub loop : IsBitLoop net bits
   pub linked : (x : ℕ) → Has vs x → IsLinked net bits x
 
 pub loop_bits : (net : Net) (vs : List ℕ) → IsLoopOfVertices (graph_of (elements_of net)) vs → LoopBits net vs

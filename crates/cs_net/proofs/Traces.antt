@@ -7,9 +7,9 @@ use Rattle.cs_base.specs.declared.signal.Signal.{Signal}
 use Rattle.cs_base.specs.declared.signal.Signal.TheVariants.{Zero, One, Unknown, HighZ, Bit}
 use Rattle.cs_cells.specs.Gates.{gate_value}
 use Rattle.cs_cells.specs.Memories.{read_bit}
-use Rattle.cs_net.specs.Netlist.{Net, State}
+use Rattle.cs_net.specs.Netlist.{Net, NetState}
 use Rattle.cs_modules.specs.Signals.{holds_bit, is_bit}
-use Rattle.cs_net.specs.Drivers.{Driver, undriven, input, gate, word_bit, register, driver_of, fanin, IsOrder}
+use Rattle.cs_net.specs.Drivers.{Driver, undriven, input, gate, word_bit, register, driver_of, fanin, IsBitOrder}
 use Rattle.cs_net.specs.Trace.{Row, Valuation, signal_value, value_by, value_within, next_state, Settles, IsTrace, AgreeOver, HasOneTrace}
 
 -- two settings agree on the bits of a list of signals
@@ -31,14 +31,14 @@ all_seen_same v w (s ∷ ss) h =
     cc
 
 -- a bit's value depends on what its driver depends alone
-value_same : (d : Driver) (b : ℕ) (row : Row) (now : State) (v w : Valuation) → Agree v w (fanin d) → value_by d b row now v ≡ value_by d b row now w
+value_same : (d : Driver) (b : ℕ) (row : Row) (now : NetState) (v w : Valuation) → Agree v w (fanin d) → value_by d b row now v ≡ value_by d b row now w
 value_same undriven b row now v w h = refl
 value_same (input i) b row now v w h = refl
 value_same (gate kind pins) b row now v w h = ap (gate_value kind) (all_seen_same v w pins h)
 value_same (word_bit r) b row now v w h = ap (λ address. read_bit (now.words r.memory) address r.place) (all_seen_same v w r.address h)
 value_same (register r) b row now v w h = refl
 
-module _ (net : Net) (row : Row) (now : State) (place : ℕ → ℕ) (order : IsOrder net place) where
+module _ (net : Net) (row : Row) (now : NetState) (place : ℕ → ℕ) (order : IsBitOrder net place) where
   -- ---- one setting at most
 
   same_below : (v w : Valuation) → Settles net row now v → Settles net row now w → (k b : ℕ) → place b < k → v b ≡ w b
@@ -68,8 +68,8 @@ module _ (net : Net) (row : Row) (now : State) (place : ℕ → ℕ) (order : Is
 
 -- ---- runs
 
-module _ (net : Net) (place : ℕ → ℕ) (order : IsOrder net place) (from : State) (rows : List Row) where
-  state_at : ℕ → State
+module _ (net : Net) (place : ℕ → ℕ) (order : IsBitOrder net place) (from : NetState) (rows : List Row) where
+  state_at : ℕ → NetState
   state_at zero = from
   state_at (suc n) = next_state net (state_at n) (settled net (get_or rows n []) (state_at n) place order)
 
@@ -84,7 +84,7 @@ module _ (net : Net) (place : ℕ → ℕ) (order : IsOrder net place) (from : S
     goes_on = λ n h. refl;
   }
 
-  module _ (bits bits' : ℕ → Valuation) (state state' : ℕ → State) (t : IsTrace net from rows bits state) (t' : IsTrace net from rows bits' state') where
+  module _ (bits bits' : ℕ → Valuation) (state state' : ℕ → NetState) (t : IsTrace net from rows bits state) (t' : IsTrace net from rows bits' state') where
     states_agree : (n : ℕ) → n ≤ length rows → state n ≡ state' n
     states_agree zero h = t.begins ∙ sym t'.begins
     states_agree (suc n) h =

@@ -13,7 +13,7 @@ use Rattle.cs_conditions.specs.declared.error.NetError.{NetError}
 use Rattle.cs_conditions.specs.declared.error.NetError.TheVariants.{NoTop, GateLoop, Reserved, Limit}
 use Rattle.cs_net.specs.Netlist.{Net}
 use Rattle.cs_modules.specs.Signals.{is_bit, is_bit_of}
-use Rattle.cs_net.specs.Drivers.{Driver, undriven, input, gate, word_bit, register, DrivenSignal, fanin, cell_drives, IsLoop}
+use Rattle.cs_net.specs.Drivers.{Driver, undriven, input, gate, word_bit, register, DrivenSignal, fanin, cell_drives, IsBitLoop}
 use Rattle.cs_conditions.specs.Conditions.{early_refusal, reserved, or_else}
 use Rattle.cs_modules.specs.Modules.{top_of}
 use Rattle.cs_net.specs.Build.{net_of}
@@ -22,7 +22,7 @@ use Rattle.cs_modules.specs.Memories.{shapes_in}
 -- ---- 15: loops
 
 abbrev pub HasNoLoop : Net → Type 0
-HasNoLoop net = (bits : List ℕ) → ¬ IsLoop net bits
+HasNoLoop net = (bits : List ℕ) → ¬ IsBitLoop net bits
 
 -- driven by a gate or an unclocked read
 abbrev pub is_combinational : Driver → Bool
@@ -59,7 +59,7 @@ is_below a b = is_lt (slice_cmp nat_cmp a b)
 
 -- cells of a loop of bits: each feeds the next and the last the first, none stands twice, and the first is the least
 pub record IsLoopOf (net : Net) (bits : List ℕ) (first : List ℕ) (rest : List (List ℕ)) : Type 0 where
-  pub loop : IsLoop net bits
+  pub loop : IsBitLoop net bits
   pub of_it : IsTrue (list_all (drives_one_of net bits) (first ∷ rest))
   pub feed_on : FeedOn net (first ∷ rest) first
   pub least : IsTrue (list_all (is_below first) rest)
@@ -127,7 +127,7 @@ abbrev pub Refuses : Document → Option (List ℕ) → NetError → Type 0
 Refuses doc top e = MatchOption (top_of doc top) (e ≡ NoTop) (λ m. RefusesModule m e)
 
 -- the netlist of a document's top module, where none of the conditions 1 to 16 holds
-pub record IsNet (doc : Document) (top : Option (List ℕ)) (net : Net) : Type 0 where
+pub record IsNetlistOf (doc : Document) (top : Option (List ℕ)) (net : Net) : Type 0 where
   pub «module» : Module
   pub is_top : top_of doc top ≡ Some «module»
   pub early : early_refusal «module» ≡ None
@@ -137,5 +137,5 @@ pub record IsNet (doc : Document) (top : Option (List ℕ)) (net : Net) : Type 0
 
 -- it is the netlist of the document's top module, and within the limits
 pub record IsAccepted (doc : Document) (top : Option (List ℕ)) (net : Net) : Type 0 where
-  pub is_net : IsNet doc top net
+  pub is_net : IsNetlistOf doc top net
   pub within : limit_fault net ≡ None

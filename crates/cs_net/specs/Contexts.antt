@@ -5,7 +5,7 @@ use Rattle.cs_cells.specs.Memories.{Words}
 use Rattle.cs_net.specs.declared.images.Images.{Images}
 use Rattle.cs_net.specs.declared.state.MemoryWords.{MemoryWords}
 use Rattle.cs_net.specs.declared.state.Snapshot.{Snapshot}
-use Rattle.cs_net.specs.Netlist.{Net, State, state_of}
+use Rattle.cs_net.specs.Netlist.{Net, NetState, state_of}
 use Rattle.cs_net.specs.Drivers.{own_start}
 
 -- the bits of an image, least significant bit of word 0 first
@@ -39,5 +39,5 @@ context_start net images k =
     record { bits = (own_start net).bits; memories = with_images k (own_start net).memories images.of }
 
 -- the start of context k
-abbrev pub start_of : Net → Images → ℕ → State
+abbrev pub start_of : Net → Images → ℕ → NetState
 start_of net images k = state_of (context_start net images k)

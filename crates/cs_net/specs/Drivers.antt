@@ -204,16 +204,16 @@ abbrev pub depends_on : Net → ℕ → ℕ → Bool
 depends_on net b a = holds_bit a (fanin (driver_of net b))
 
 -- each bit depends on the next, and the final one on `last`
-abbrev pub IsChain : Net → List ℕ → ℕ → Type 0
-IsChain net [] last = ⊥
-IsChain net (b ∷ []) last = IsTrue (depends_on net b last)
-IsChain net (b ∷ a ∷ bs) last = IsTrue (depends_on net b a) × IsChain net (a ∷ bs) last
+abbrev pub IsBitChain : Net → List ℕ → ℕ → Type 0
+IsBitChain net [] last = ⊥
+IsBitChain net (b ∷ []) last = IsTrue (depends_on net b last)
+IsBitChain net (b ∷ a ∷ bs) last = IsTrue (depends_on net b a) × IsBitChain net (a ∷ bs) last
 
 -- each bit depends on the next, and the final one on the first
-abbrev pub IsLoop : Net → List ℕ → Type 0
-IsLoop net [] = ⊥
-IsLoop net (b ∷ bs) = IsChain net (b ∷ bs) b
+abbrev pub IsBitLoop : Net → List ℕ → Type 0
+IsBitLoop net [] = ⊥
+IsBitLoop net (b ∷ bs) = IsBitChain net (b ∷ bs) b
 
 -- each bit has a place after those that it depends on
-abbrev pub IsOrder : Net → (ℕ → ℕ) → Type 0
-IsOrder net place = (b a : ℕ) → IsTrue (depends_on net b a) → place a < place b
+abbrev pub IsBitOrder : Net → (ℕ → ℕ) → Type 0
+IsBitOrder net place = (b a : ℕ) → IsTrue (depends_on net b a) → place a < place b

@@ -6,19 +6,19 @@ use Rattle.cs_net.specs.declared.netlist.Cell.{Cell}
 use Rattle.cs_json.specs.declared.document.Module.{Module}
 use Rattle.cs_json.specs.Readable.{IsModule}
 use Rattle.cs_net.specs.Netlist.{Net, words_at}
-use Rattle.cs_net.specs.Drivers.{IsOrder}
+use Rattle.cs_net.specs.Drivers.{IsBitOrder}
 use Rattle.cs_conditions.specs.Conditions.{early_refusal, reserved}
 use Rattle.cs_net.specs.Build.{net_of}
 use Rattle.cs_net.specs.Accept.{limit_fault}
 
 -- some place for each bit, after those that it depends on
-pub record HasOrder (net : Net) : Type 0 where
+pub record HasBitOrder (net : Net) : Type 0 where
   pub place : ℕ → ℕ
-  pub order : IsOrder net place
+  pub order : IsBitOrder net place
 
 -- none of the conditions 15 to 17 holds of a module's netlist, and its bits have an order
 pub record IsSound (m : Module) : Type 0 where
-  pub order : HasOrder (net_of m)
+  pub order : HasBitOrder (net_of m)
   pub not_reserved : reserved m ≡ None
   pub within : limit_fault (net_of m) ≡ None
 
@@ -29,7 +29,7 @@ pub record IsWellFormed (net : Net) : Type 0 where
   pub early : early_refusal «module» ≡ None
   pub not_reserved : reserved «module» ≡ None
   pub is : net ≡ net_of «module»
-  pub order : HasOrder net
+  pub order : HasBitOrder net
   pub within : limit_fault net ≡ None
 
 -- for each cell that is a memory, the place of its words among the memories

@@ -23,7 +23,7 @@ pub record Net : Type 0 where
   pub memories : List MemoryWords
 
 -- a state: the value of each bit that a register or a clocked read drives, and the words of the memory of a name
-pub record State : Type 0 where
+pub record NetState : Type 0 where
   pub bit : ℕ → Bool
   pub words : List ℕ → Words
 
@@ -36,5 +36,5 @@ abbrev pub words_at : List MemoryWords → List ℕ → Words
 words_at memories name = unwrap_or (option_map (λ m. m.words) (find (λ m. bytes_eq m.name name) memories)) []
 
 -- the state that a snapshot lists
-abbrev pub state_of : Snapshot → State
+abbrev pub state_of : Snapshot → NetState
 state_of s = record { bit = bit_at s.bits; words = words_at s.memories }

@@ -9,7 +9,7 @@ use Rattle.cs_cells.specs.Registers.{next_value}
 use Rattle.cs_cells.specs.Memories.{Words, Write, read_bit, after_writes}
 use Rattle.cs_net.specs.declared.netlist.Cell.{Cell}
 use Rattle.cs_net.specs.declared.state.Snapshot.{Snapshot}
-use Rattle.cs_net.specs.Netlist.{Net, State, state_of}
+use Rattle.cs_net.specs.Netlist.{Net, NetState, state_of}
 use Rattle.cs_net.specs.Drivers.{WordBit, Source, from_signal, from_word, Driver, undriven, input, gate, word_bit, register, driver_of, data_inputs, data_outputs, port_part}
 use Rattle.cs_modules.specs.Pins.{count_from}
 
@@ -35,7 +35,7 @@ word_bit_value words v w = read_bit (words w.memory) (map (signal_value v) w.add
 
 -- the value of a bit by what drives it: a data input has its bit of the row, a gate its equation, an unclocked read
 -- its bit of the word before this clock's writes, a register what it holds, and an undriven bit is 0
-abbrev pub value_by : Driver → ℕ → Row → State → Valuation → Bool
+abbrev pub value_by : Driver → ℕ → Row → NetState → Valuation → Bool
 value_by undriven b row now v = false
 value_by (input i) b row now v = get_or row i false
 value_by (gate kind pins) b row now v = gate_value kind (map (signal_value v) pins)
@@ -43,11 +43,11 @@ value_by (word_bit w) b row now v = word_bit_value now.words v w
 value_by (register r) b row now v = now.bit b
 
 -- a valuation settles where each bit has the value that its driver gives it
-abbrev pub Settles : Net → Row → State → Valuation → Type 0
+abbrev pub Settles : Net → Row → NetState → Valuation → Type 0
 Settles net row now v = (b : ℕ) → v b ≡ value_by (driver_of net b) b row now v
 
 -- the settled value of a bit, computed where it depends on others no more than `fuel` deep
-unfoldable pub value_within : Net → Row → State → ℕ → Valuation
+unfoldable pub value_within : Net → Row → NetState → ℕ → Valuation
 value_within net row now zero b = false
 value_within net row now (suc fuel) b = value_by (driver_of net b) b row now (value_within net row now fuel)
 
@@ -86,7 +86,7 @@ writes_at net name v =
     unwrap_or (option_map (λ c. writes_of c v) (find (λ c. bytes_eq c.0.name name) (zip net.cells net.shapes))) []
 
 -- the state after a clock: registers hold their next values, and memories have the words after the writes
-abbrev pub next_state : Net → State → Valuation → State
+abbrev pub next_state : Net → NetState → Valuation → NetState
 next_state net now v = record {
   bit = λ b. next_bit (driver_of net b) (now.bit b) now.words v;
   words = λ name. after_writes (writes_at net name v) (now.words name);
@@ -95,22 +95,22 @@ next_state net now v = record {
 -- ---- traces
 
 -- a trace over rows from a state: it begins there, in each clock the bits settle, and then it goes on to the next state
-pub record IsTrace (net : Net) (from : State) (rows : List Row) (bits : ℕ → Valuation) (state : ℕ → State) : Type 0 where
+pub record IsTrace (net : Net) (from : NetState) (rows : List Row) (bits : ℕ → Valuation) (state : ℕ → NetState) : Type 0 where
   pub begins : state 0 ≡ from
   pub settles : (n : ℕ) → n < length rows → Settles net (get_or rows n []) (state n) (bits n)
   pub goes_on : (n : ℕ) → n < length rows → state (suc n) ≡ next_state net (state n) (bits n)
 
 -- two traces agree at every clock of the rows
-pub record AgreeOver (rows : List Row) (bits bits' : ℕ → Valuation) (state state' : ℕ → State) : Type 0 where
+pub record AgreeOver (rows : List Row) (bits bits' : ℕ → Valuation) (state state' : ℕ → NetState) : Type 0 where
   pub same_bits : (n : ℕ) → n < length rows → bits n ≡ bits' n
   pub same_state : (n : ℕ) → n ≤ length rows → state n ≡ state' n
 
 -- there is a trace, and every other one agrees with it
-pub record HasOneTrace (net : Net) (from : State) (rows : List Row) : Type 0 where
+pub record HasOneTrace (net : Net) (from : NetState) (rows : List Row) : Type 0 where
   pub bits : ℕ → Valuation
-  pub state : ℕ → State
+  pub state : ℕ → NetState
   pub trace : IsTrace net from rows bits state
-  pub only : (bits' : ℕ → Valuation) (state' : ℕ → State) → IsTrace net from rows bits' state' → AgreeOver rows bits bits' state state'
+  pub only : (bits' : ℕ → Valuation) (state' : ℕ → NetState) → IsTrace net from rows bits' state' → AgreeOver rows bits bits' state state'
 
 -- ---- answers
 
@@ -124,9 +124,9 @@ output_rows net zero bits = []
 output_rows net (suc count) bits = output_row net (bits 0) ∷ output_rows net count (λ n. bits (suc n))
 
 -- net answers rows from a state with `answer`: there is a trace over them, and the answer is its data output bits
-pub record Answers (net : Net) (from : State) (rows answer : List Row) : Type 0 where
+pub record Answers (net : Net) (from : NetState) (rows answer : List Row) : Type 0 where
   pub bits : ℕ → Valuation
-  pub state : ℕ → State
+  pub state : ℕ → NetState
   pub trace : IsTrace net from rows bits state
   pub shows : answer ≡ output_rows net (length rows) bits
 

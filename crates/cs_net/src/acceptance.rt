@@ -6,7 +6,7 @@ ghost use Rattle.cs_net.specs.Accept.{IsAccepted, Refuses, RefusesLate, RefusesM
 ghost use Rattle.cs_net.specs.Build.{IsDraftOf, net_of};
 ghost use Rattle.cs_conditions.specs.Conditions.{bad_pins, early_refusal};
 ghost use Rattle.cs_net.specs.Elements.{elements_of, graph_of};
-ghost use Rattle.cs_net.specs.Invariant.{HasOrder, IsSound};
+ghost use Rattle.cs_net.specs.Invariant.{HasBitOrder, IsSound};
 ghost use Rattle.cs_conditions.specs.declared.error.NetError.{NetError};
 ghost use Rattle.cs_conditions.specs.declared.error.NetError.TheVariants.{NoMemory};
 
@@ -51,7 +51,7 @@ fn arrange_cells(alloc: Global, top: &Module, draft: &Draft) -> Result<Sequence<
     requires readable { IsModule top.now }
     requires draft { IsDraftOf top.now draft.now }
     ensures elements { IfOk result (IsOrder (graph_of (elements_of (net_of top.now)))) }
-    ensures bits { IfOk result (λ _. HasOrder (net_of top.now)) }
+    ensures bits { IfOk result (λ _. HasBitOrder (net_of top.now)) }
     ensures refuses { IfErr result (λ e. (e ≡ NoMemory) ⊎ RefusesLate top.now e) }
 {
     let _ = top;

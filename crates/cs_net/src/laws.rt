@@ -14,8 +14,8 @@ ghost use Rattle.cs_modules.specs.Pins.{width_at};
 ghost use Rattle.cs_net.specs.Starts.{starts_of_cell};
 ghost use Rattle.cs_net.specs.Widths.{widths_by};
 ghost use Rattle.cs_base.specs.Parts.{part};
-ghost use Rattle.cs_net.specs.Invariant.{HasOrder};
-ghost use Rattle.cs_net.specs.Netlist.{Net, State, words_at};
+ghost use Rattle.cs_net.specs.Invariant.{HasBitOrder};
+ghost use Rattle.cs_net.specs.Netlist.{Net, NetState, words_at};
 ghost use Rattle.cs_net.specs.Trace.{Row, HasOneTrace};
 ghost use Rattle.cs_net.specs.Contexts.{no_images};
 ghost use Rattle.cs_net.specs.Isolates.{Isolates};
@@ -31,12 +31,12 @@ pub fn rows_of_a_part()
 
 /// A netlist whose bits have an order, as an accepted one's have, has exactly one trace over any rows, from any state.
 pub fn one_trace()
-    ensures { (net : Net) (from : State) (rows : List Row) → HasOrder net → HasOneTrace net from rows }
+    ensures { (net : Net) (from : NetState) (rows : List Row) → HasBitOrder net → HasOneTrace net from rows }
 {}
 
 /// A netlist whose bits have an order isolates itself in one context, without images.
 pub fn isolates_itself()
-    ensures { (net : Net) → HasOrder net → Isolates net net (no_images net) 1 }
+    ensures { (net : Net) → HasBitOrder net → Isolates net net (no_images net) 1 }
 {}
 
 /// Each cell has one entry among the shapes, and a memory alone has a shape. The words of the memories stand in order of

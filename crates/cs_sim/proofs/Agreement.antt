@@ -8,7 +8,7 @@ use Rattle.cs_cells.specs.declared.register.FfKind.{FfKind}
 use Rattle.cs_net.specs.declared.netlist.Cell.{Cell}
 use Rattle.cs_net.specs.Drivers.{read_data}
 use Rattle.cs_net.specs.Invariant.{IsWellFormed}
-use Rattle.cs_net.specs.Netlist.{Net, State, state_of}
+use Rattle.cs_net.specs.Netlist.{Net, NetState, state_of}
 use Rattle.cs_sim.specs.declared.layout.ReadPortSlots.{ReadPortSlots}
 use Rattle.cs_sim.specs.Clock.{HeldValues}
 use Rattle.cs_sim.specs.Layout.{driven_signals, layout_of, read_bit_of, read_port_slots}
@@ -20,7 +20,7 @@ use Rattle.cs_sim.proofs.Pieces.{drives, pieces, ports_of, read_piece, register_
 use Rattle.cs_sim.proofs.ShownBits.{port_at, read_shown, register_shown}
 
 -- what is held is what the state says
-pub record Agrees (net : Net) (held : HeldValues) (now : State) : Type 0 where
+pub record Agrees (net : Net) (held : HeldValues) (now : NetState) : Type 0 where
   pub registers : (b : ℕ) (d : IsDriven (drives net) (pieces net) b) (cell : Cell) (kind : FfKind) → d.row ≡ register_piece cell kind
       → get_or held.registers (offset (registers_of net) (pieces net) d.v) false ≡ now.bit b
   pub reads : (b : ℕ) (d : IsDriven (drives net) (pieces net) b) (m : ℕ) (cell : Cell) (shape : MemShape) (port : ℕ) (read : ReadShape)

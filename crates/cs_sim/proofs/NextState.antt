@@ -15,7 +15,7 @@ use Rattle.cs_cells.specs.Registers.{next_value}
 use Rattle.cs_net.specs.declared.netlist.Cell.{Cell}
 use Rattle.cs_net.specs.Drivers.{DrivenSignal, Driver, bits_of, data_inputs, driver_of, gate, input, port_part, read_data, read_driver, read_element, read_word_bit, register, register_of, signal_of, undriven, word_bit}
 use Rattle.cs_net.specs.Invariant.{IsWellFormed}
-use Rattle.cs_net.specs.Netlist.{Net, State, bit_at, state_of}
+use Rattle.cs_net.specs.Netlist.{Net, NetState, bit_at, state_of}
 use Rattle.cs_net.specs.Trace.{Valuation, next_bit, next_state, signal_value, word_bit_value}
 use Rattle.cs_sim.specs.declared.layout.Layout.{Layout}
 use Rattle.cs_sim.specs.declared.layout.ReadBit.{ReadBit}
@@ -102,7 +102,7 @@ module _ (net : Net) (w : IsWellFormed net) (held : HeldValues) (fits : Fits (la
   later_fits : Fits (layout_of net) later
   later_fits = fits_next (layout_of net) values held fits
 
-  abbrev now : State
+  abbrev now : NetState
   now = state_of (snapshot_of net (layout_of net) held)
 
   abbrev shown_later : ℕ → Bool
@@ -214,5 +214,5 @@ module _ (net : Net) (w : IsWellFormed net) (held : HeldValues) (fits : Fits (la
   pub next_state_shown : state_of (snapshot_of net (layout_of net) (next_held (layout_of net) values held))
       ≡ next_state net (state_of (snapshot_of net (layout_of net) held)) v
   next_state_shown =
-      ap₂ (λ bit words. let s : State = record { bit = bit; words = words } in s)
+      ap₂ (λ bit words. let s : NetState = record { bit = bit; words = words } in s)
       (fun_ext next_bit_shown) (fun_ext (next_words_shown net values v settled w held fits))

@@ -17,7 +17,7 @@ use Rattle.cs_net.specs.declared.netlist.Cell.{Cell}
 use Rattle.cs_modules.specs.Signals.{holds_bit, is_bit}
 use Rattle.cs_net.specs.Drivers.{Driver, DrivenSignal, input, gate, word_bit, register, data_inputs, port_part, read_data, read_element as read_register_element, read_word_bit, signal_of}
 use Rattle.cs_net.specs.Elements.{elements_of, graph_of, owner, sources}
-use Rattle.cs_net.specs.Netlist.{Net, State}
+use Rattle.cs_net.specs.Netlist.{Net, NetState}
 use Rattle.cs_modules.specs.Pins.{count_from}
 use Rattle.cs_net.specs.Trace.{Row, Settles, Valuation, signal_value, value_by}
 use Rattle.cs_net.proofs.ElementGraphs.{input_owner, sources_of_element, vertex_count}
@@ -140,7 +140,7 @@ module _ (net : Net) (order : List ℕ) (is_order : IsOrder (graph_of (elements_
 
 -- ---- the values
 
-module _ (net : Net) (held : HeldValues) (row : Row) (now : State) (v : Valuation) (settles : Settles net row now v)
+module _ (net : Net) (held : HeldValues) (row : Row) (now : NetState) (v : Valuation) (settles : Settles net row now v)
     (fits : length row ≡ length (data_inputs net)) (agrees : Agrees net held now) where
   ps : List Piece
   ps = pieces net

@@ -6,7 +6,7 @@ ghost use Rattle.cs_order.specs.Arrangements.{IfLoop, IfOrder};
 ghost use Rattle.cs_order.specs.Graphs.{IsLoop, IsOrder};
 ghost use Rattle.cs_modules.specs.Signals.{number_in, holds_bit};
 ghost use Rattle.cs_net.specs.Elements.{elements_of, graph_of, owner};
-ghost use Rattle.cs_net.specs.Invariant.{HasOrder};
+ghost use Rattle.cs_net.specs.Invariant.{HasBitOrder};
 ghost use Rattle.cs_net.specs.Netlist.{Net};
 
 use crate::elements::Element;
@@ -98,7 +98,7 @@ pub(crate) fn arrange_elements(
 ) -> Result<Arrangement, AllocError>
     ensures order { IfOk result (λ a. IfOrder a (IsOrder (graph_of elements.now))) }
     ensures bits { IfOk result (λ a.
-        IfOrder a (λ _. (net : Net) → elements.now ≡ elements_of net → HasOrder net)) }
+        IfOrder a (λ _. (net : Net) → elements.now ≡ elements_of net → HasBitOrder net)) }
     ensures loop_found { IfOk result (λ a. IfLoop a (IsLoop (graph_of elements.now))) }
 {
     arrange(alloc, &graph(alloc, elements)?)

@@ -4,7 +4,7 @@ use Rattle.cs_order.specs.Arrangements.{IfOrder}
 use Rattle.cs_order.specs.Graphs.{IsOrder}
 use Rattle.cs_net.specs.Build.{net_of}
 use Rattle.cs_net.specs.Elements.{elements_of, graph_of}
-use Rattle.cs_net.specs.Invariant.{HasOrder}
+use Rattle.cs_net.specs.Invariant.{HasBitOrder}
 use Rattle.cs_net.specs.Netlist.{Net}
 use Rattle.cs_net.specs.declared.netlist.Cell.{Cell}
 use Rattle.cs_net.proofs.CellOrder.{cells_in_order}
@@ -25,7 +25,7 @@ returns-in-Order-clause-bits c =
     let m = c.args.top.now in
     let made = drafted_elements m c.args.draft.now c.in_ok-elements.elements c.as_slice.result.now c.as_slice-cells.result.now c.as_slice-shapes.result.now
     c.requires.draft c.as_slice.ensures c.as_slice-cells.ensures c.as_slice-shapes.ensures c.in_ok-elements.ensures in
-    subst (λ a. IfOrder a (λ _. (net : Net) → c.as_slice-2.result.now ≡ elements_of net → HasOrder net)) c.in-Order.is
+    subst (λ a. IfOrder a (λ _. (net : Net) → c.as_slice-2.result.now ≡ elements_of net → HasBitOrder net)) c.in-Order.is
     c.in_ok-order.ensures.bits (net_of m) (c.as_slice-2.ensures ∙ made)
 
 pub loop_names-requires-clause-netlist : goal.loop_names-requires-clause-netlist
