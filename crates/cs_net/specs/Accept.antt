@@ -127,7 +127,7 @@ abbrev pub Refuses : Document → Option (List ℕ) → NetError → Type 0
 Refuses doc top e = MatchOption (top_of doc top) (e ≡ NoTop) (λ m. RefusesModule m e)
 
 -- the netlist of a document's top module, where none of the conditions 1 to 16 holds
-pub record IsNetlistOf (doc : Document) (top : Option (List ℕ)) (net : Net) : Type 0 where
+pub record IsNetOfTop (doc : Document) (top : Option (List ℕ)) (net : Net) : Type 0 where
   pub «module» : Module
   pub is_top : top_of doc top ≡ Some «module»
   pub early : early_refusal «module» ≡ None
@@ -137,5 +137,5 @@ pub record IsNetlistOf (doc : Document) (top : Option (List ℕ)) (net : Net) : 
 
 -- it is the netlist of the document's top module, and within the limits
 pub record IsAccepted (doc : Document) (top : Option (List ℕ)) (net : Net) : Type 0 where
-  pub is_net : IsNetlistOf doc top net
+  pub is_net : IsNetOfTop doc top net
   pub within : limit_fault net ≡ None

@@ -3,7 +3,7 @@ use Rattle.std.specs.Prelude.{◌≡◌, ℕ, List, None}
 use Rattle.cs_json.specs.declared.document.Document.{Document}
 use Rattle.cs_json.specs.Shape.{document, NoJson, RefusedAt, Says}
 use Rattle.cs_net.specs.Netlist.{Net}
-use Rattle.cs_net.specs.Accept.{IsAccepted, IsNetlistOf, Refuses}
+use Rattle.cs_net.specs.Accept.{IsAccepted, IsNetOfTop, Refuses}
 use Rattle.cs_net.specs.Contexts.{no_images}
 use Rattle.cs_net.specs.Isolates.{Isolates}
 use Rattle.cs_run.specs.declared.reason.NetFault.{NetFault}
@@ -15,7 +15,7 @@ use Rattle.cs_run.specs.declared.reason.Reason.TheVariants.{NoNetlist}
 pub record IsNetOf (bytes : List ℕ) (net : Net) : Type 0 where
   pub doc : Document
   pub says : document bytes ≡ Says doc
-  pub is : IsNetlistOf doc None net
+  pub is : IsNetOfTop doc None net
 
 -- the same, where no count is above its limit
 pub record IsNetlistOf (bytes : List ℕ) (net : Net) : Type 0 where
