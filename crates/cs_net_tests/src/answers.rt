@@ -22,10 +22,15 @@ fn answer(rt: &impl Abort, alloc: Global, net: &Netlist, rows: &str) -> Vec<u8> 
     print_response(alloc, &response).expect(rt, "a text")
 }
 
+// Whether the netlist of a document answers these rows with that response.
+fn is_answer(rt: &HostRuntime, document: &str, rows: &str, response: &str) -> bool {
+    let net = netlist(rt, rt.alloc(), document);
+    answer(rt, rt.alloc(), &net, rows).as_slice() == response.as_bytes()
+}
+
 // The rows of the clocked read come from an independent simulator.
 #[test]
 fn to_rows(rt: HostRuntime) {
-    let alloc = rt.alloc();
     for (document, rows, response) in [
         (
             CLOCKED_READ,
@@ -39,8 +44,6 @@ fn to_rows(rt: HostRuntime) {
         (STICKY, "", ""),
         (STICKY, "1\n0\n", "0100\n1100\n"),
     ] {
-        let net = netlist(&rt, alloc, document);
-        let text = answer(&rt, alloc, &net, rows);
-        assert!(rt; text.as_slice() == response.as_bytes(), "{response}");
+        assert!(rt; is_answer(&rt, document, rows, response), "{response}");
     }
 }

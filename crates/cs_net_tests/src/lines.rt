@@ -7,7 +7,6 @@ use cs_net::{Netlist, accept};
 use cs_report::{Fault, fault_text};
 use std::alloc::Global;
 use std::process::Abort;
-use std::test::Fail;
 
 fn document(rt: &impl Abort, alloc: Global, text: &str) -> Document
     ensures { IsReadable result }
@@ -31,8 +30,15 @@ pub(crate) fn refusal_of(rt: &impl Abort, alloc: Global, text: &str, top: Option
     }
 }
 
+fn is_limit_line(alloc: Global, fault: LimitFault, line: &str) -> bool {
+    match fault_text(alloc, &Fault::Limit(fault)) {
+        Ok(text) => text.as_slice() == line.as_bytes(),
+        Err(_) => false,
+    }
+}
+
 #[test]
-fn limits_are_told(rt: HostRuntime) -> Result<(), Fail> {
+fn limits_are_told(rt: HostRuntime) {
     for (what, found, most, line) in [
         (
             Counted::AddressBits,
@@ -65,8 +71,7 @@ fn limits_are_told(rt: HostRuntime) -> Result<(), Fail> {
             "limit: vertices 4097 above 4096\n",
         ),
     ] {
-        let text = fault_text(rt.alloc(), &Fault::Limit(LimitFault { what, found, most }))?;
-        assert!(rt; text.as_slice() == line.as_bytes(), "{line}");
+        let fault = LimitFault { what, found, most };
+        assert!(rt; is_limit_line(rt.alloc(), fault, line), "{line}");
     }
-    Ok(())
 }

@@ -91,11 +91,16 @@ fn limits(rt: HostRuntime) -> Result<(), Fail> {
     Ok(())
 }
 
+// Whether a word of the first cell of such a document's netlist starts with these bits.
+fn is_start(rt: &HostRuntime, document: &str, word: u32, bits: &str) -> bool {
+    let net = netlist(rt, rt.alloc(), document);
+    starts_with(&net, word, bits)
+}
+
 // Digits come least first: of a text from its end, each character but 1 being 0; of a number below 0 the 32 of its two's
 // complement.
 #[test]
 fn starts(rt: HostRuntime) -> Result<(), Fail> {
-    let alloc = rt.alloc();
     let sizes = Sizes {
         size: 1,
         address: 0,
@@ -108,13 +113,11 @@ fn starts(rt: HostRuntime) -> Result<(), Fail> {
         ("0", "000000000000000000000000000000000"),
         ("-2", "011111111111111111111111111111110"),
     ] {
-        let document = document_of(alloc, sizes, start)?;
-        let net = netlist(&rt, alloc, document.as_str());
-        assert!(rt; starts_with(&net, 0, bits), "{start}");
+        let document = document_of(rt.alloc(), sizes, start)?;
+        assert!(rt; is_start(&rt, document.as_str(), 0, bits), "{start}");
     }
-    let net = netlist(&rt, alloc, MEMORY);
     for (word, bits) in [(0, "00"), (1, "01"), (2, "00"), (3, "00")] {
-        assert!(rt; starts_with(&net, word, bits), "word {word}");
+        assert!(rt; is_start(&rt, MEMORY, word, bits), "word {word}");
     }
     Ok(())
 }

@@ -4,6 +4,8 @@ use crate::lines::netlist;
 use cs_base::Contexts;
 use cs_json::Document;
 use cs_multiply::multiply;
+use cs_net::Netlist;
+use std::alloc::Global;
 use std::test::Fail;
 
 // Whether the first module of a document has so many cells, the last of this name.
@@ -17,14 +19,27 @@ fn has_cells(document: &Document, count: u64, last: &str) -> bool {
     module.cells.len() as u64 == count && cell.name.as_str() == last
 }
 
+// Whether the register, so many times in series, is written as so many cells, the last of this name.
+fn is_written(rt: &HostRuntime, count: u64, last: &str) -> bool {
+    let net = netlist(rt, rt.alloc(), REGISTER);
+    match Contexts::new(count) {
+        Some(contexts) => is_multiplied(rt.alloc(), &net, contexts, last),
+        None => false,
+    }
+}
+
+fn is_multiplied(alloc: Global, net: &Netlist, contexts: Contexts, last: &str) -> bool {
+    match multiply(alloc, net, contexts) {
+        Ok(document) => has_cells(&document, u64::from(contexts.get()), last),
+        Err(_) => false,
+    }
+}
+
 // One register stays one, and sixteen stand in byte order of their names.
 #[test]
 fn one_and_sixteen(rt: HostRuntime) -> Result<(), Fail> {
-    let net = netlist(&rt, rt.alloc(), REGISTER);
     for (count, last) in [(1, "$cs$r0"), (16, "$cs$r9")] {
-        let contexts = Contexts::new(count).ok_or("contexts")?;
-        let document = multiply(rt.alloc(), &net, contexts).map_err(|_| "a document")?;
-        assert!(rt; has_cells(&document, count, last), "{count}");
+        assert!(rt; is_written(&rt, count, last), "{count}");
     }
     Ok(())
 }
