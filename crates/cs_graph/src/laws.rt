@@ -5,11 +5,12 @@ ghost use Rattle.cs_base.specs.declared.contexts.Mode.{Mode};
 ghost use Rattle.cs_cells.specs.Memories.{Words};
 ghost use Rattle.cs_order.specs.Graphs.{HasNoRepeat};
 ghost use Rattle.cs_graph.specs.Invariant.{IsWellFormed};
-ghost use Rattle.cs_graph.specs.Lags.{lag_at, IsLegal, AreWithin, Contents, retimed, Justifies, HasStart};
+ghost use Rattle.cs_graph.specs.Lags.{lag_at, IsLegal, HasLengths, retimed, Justifies, HasStart};
 ghost use Rattle.cs_graph.specs.Past.{Past, lead, IsPast, AreRight, HasPast, HasPastOf, IsSlowedBy};
 ghost use Rattle.cs_graph.specs.Period.{IsLeastWeight, IsPath, IsPeriod, path_vertices, path_weight, path_weight_under};
 ghost use Rattle.cs_graph.specs.Run.{Row, Outs, RunsFor, HasOneRun, RunsWith};
 ghost use Rattle.cs_graph.specs.Slow.{slow};
+ghost use Rattle.cs_graph.specs.declared.contents.Contents.{Contents};
 ghost use Rattle.cs_graph.specs.declared.delays.Delays.{Delays};
 ghost use Rattle.cs_graph.specs.declared.graph.Graph.{Graph};
 
@@ -29,19 +30,20 @@ pub fn contexts_alone()
         → RunsWith bounded g (part k c rows) (part k c outputs) }
 {}
 
+/// A well-formed graph stays so under legal lags, with any contents of the right lengths.
+pub fn retimed_graphs()
+    ensures { (g : Graph) (mode : Mode) (lags : List ℤ) (k : Contents) → IsWellFormed g → IsLegal g mode lags
+        → HasLengths g lags k → IsWellFormed (retimed lags k g) }
+{}
+
 /// For legal lags, contents that continue a past justify the lags; the retimed machine then answers what the
-/// machine answers, and is well formed.
+/// machine answers.
 pub fn right_contents(machine: &Machine)
-    ensures justify { (mode : Mode) (lags : List ℤ) (reach : ℕ) (past : Past) (k : Contents)
-        → IsLegal machine.now mode lags → AreWithin reach lags → IsPast machine.now lags past
-        → AreRight machine.now lags past k → Justifies machine.now lags k }
-    ensures answer { (mode : Mode) (lags : List ℤ) (reach : ℕ) (past : Past) (k : Contents)
-        (rows outputs : List Row) → IsLegal machine.now mode lags → AreWithin reach lags
-        → IsPast machine.now lags past → AreRight machine.now lags past k
+    ensures justify { (mode : Mode) (lags : List ℤ) (past : Past) (k : Contents) → IsLegal machine.now mode lags
+        → IsPast machine.now lags past → AreRight machine.now lags past k → Justifies machine.now lags k }
+    ensures answer { (mode : Mode) (lags : List ℤ) (past : Past) (k : Contents) (rows outputs : List Row)
+        → IsLegal machine.now mode lags → IsPast machine.now lags past → AreRight machine.now lags past k
         → RunsWith false machine.now rows outputs → RunsWith false (retimed lags k machine.now) rows outputs }
-    ensures well_formed { (mode : Mode) (lags : List ℤ) (reach : ℕ) (past : Past) (k : Contents)
-        → IsLegal machine.now mode lags → AreWithin reach lags → AreRight machine.now lags past k
-        → IsWellFormed (retimed lags k machine.now) }
 {
     machine.keeps();
 }
@@ -59,8 +61,8 @@ pub fn values_ahead(machine: &Machine)
 /// Legal lags have a justifying start exactly where they have a past; where every weight is a multiple of the
 /// number of contexts, exactly where they have one for each context; and so have lags that are positive by less.
 pub fn starts(machine: &Machine)
-    ensures exactly { (mode : Mode) (lags : List ℤ) (reach : ℕ) → IsLegal machine.now mode lags
-        → AreWithin reach lags → HasStart machine.now lags ↔ HasPast machine.now lags }
+    ensures exactly { (mode : Mode) (lags : List ℤ) → IsLegal machine.now mode lags
+        → HasStart machine.now lags ↔ HasPast machine.now lags }
     ensures by_context { (lags : List ℤ) (c : ℕ) → 0 < c → IsSlowedBy c machine.now
         → HasPast machine.now lags ↔ ((k : ℕ) → k < c → HasPastOf machine.now lags c k) }
     ensures pass { (lags lags' : List ℤ) → ((v : ℕ) → lead (lag_at lags v) ≤ lead (lag_at lags' v))
