@@ -59,7 +59,7 @@ pub record IsPast (g : Graph) (lags : List ℤ) (past : Past) : Type 0 where
 pub record AreRight (g : Graph) (lags : List ℤ) (past : Past) (k : Contents) : Type 0 where
   pub lengths : HasLengths g lags k
   pub each : (e j : ℕ) (d : Edge) → slice_get g.edges e ≡ Some d → j < length (of_edge k e) → (row : ℕ
-      → Row) (value : ℕ → Outs) (words : ℕ → ℕ → Words) → RunsOn g row value words
+      → Row) (value : ℕ → Outs) (words : ℕ → ℕ → Words) → RunsOn false g row value words
       → get_or (of_edge k e) j false ≡ ever lags past value e d (negsuc j -ℤ lag_at lags d.from)
 
 -- these lags have a past

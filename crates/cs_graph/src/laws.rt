@@ -8,7 +8,7 @@ ghost use Rattle.cs_graph.specs.Invariant.{IsWellFormed};
 ghost use Rattle.cs_graph.specs.Lags.{lag_at, IsLegal, HasLengths, retimed, Justifies, HasStart};
 ghost use Rattle.cs_graph.specs.Past.{Past, lead, IsPast, AreRight, HasPast, HasPastOf, IsSlowedBy};
 ghost use Rattle.cs_graph.specs.Period.{IsLeastWeight, IsPath, IsPeriod, path_vertices, path_weight, path_weight_under};
-ghost use Rattle.cs_graph.specs.Run.{Row, Outs, RunsFor, HasOneRun, RunsWith};
+ghost use Rattle.cs_graph.specs.Run.{Row, Outs, RunsFor, HasOneRun, HasOneRunOn, RunsWith};
 ghost use Rattle.cs_graph.specs.Slow.{slow};
 ghost use Rattle.cs_graph.specs.declared.contents.Contents.{Contents};
 ghost use Rattle.cs_graph.specs.declared.delays.Delays.{Delays};
@@ -16,12 +16,13 @@ ghost use Rattle.cs_graph.specs.declared.graph.Graph.{Graph};
 
 use crate::machine::Machine;
 
-/// A machine has exactly one run over any rows, and exactly one bounded run.
-pub fn one_run(machine: &Machine)
-    ensures { (bounded : Bool) (clocks : ℕ) (row : ℕ → Row) → HasOneRun bounded machine.now clocks row }
-{
-    machine.keeps();
-}
+/// A well-formed graph has exactly one run over any rows, and exactly one bounded run; and one for ever, of which
+/// each of these is the beginning.
+pub fn one_run()
+    ensures clocks { (bounded : Bool) (g : Graph) (clocks : ℕ) (row : ℕ → Row) → IsWellFormed g
+        → HasOneRun bounded g clocks row }
+    ensures for_ever { (bounded : Bool) (g : Graph) (row : ℕ → Row) → IsWellFormed g → HasOneRunOn bounded g row }
+{}
 
 /// What a machine without memories answers when each register is several, it answers to each context alone.
 pub fn contexts_alone()
