@@ -16,6 +16,7 @@ pub mod OrderLemmas
 pub mod ArrivalLemmas
 pub mod PathLemmas
 pub mod PathWeights
+pub mod PeriodsByPaths
 pub mod RetimedLoops
 pub mod OpenLemmas
 pub mod FinishLemmas

@@ -7,7 +7,7 @@ ghost use Rattle.cs_order.specs.Graphs.{HasNoRepeat};
 ghost use Rattle.cs_graph.specs.Invariant.{IsWellFormed};
 ghost use Rattle.cs_graph.specs.Lags.{lag_at, IsLegal, HasLengths, retimed, Justifies, HasStart};
 ghost use Rattle.cs_graph.specs.Past.{Past, lead, IsPast, AreRight, HasPast, HasPastOf, IsSlowedBy};
-ghost use Rattle.cs_graph.specs.Period.{IsLeastWeight, IsPath, IsPeriod, path_vertices, path_weight, path_weight_under};
+ghost use Rattle.cs_graph.specs.Period.{IsLeastWeight, IsPath, IsPathDelay, IsPeriod, IsPeriodWithin, MeetsBound, path_vertices, path_weight, path_weight_under};
 ghost use Rattle.cs_graph.specs.Run.{Row, Outs, RunsFor, HasOneRun, HasOneRunOn, RunsWith};
 ghost use Rattle.cs_graph.specs.Slow.{slow};
 ghost use Rattle.cs_graph.specs.declared.contents.Contents.{Contents};
@@ -98,3 +98,17 @@ pub fn least_paths(machine: &Machine)
 {
     machine.keeps();
 }
+
+/// Legal lags have a period at most a bound exactly where, for all vertices u and v with D(u, v) above the bound,
+/// r(u) - r(v) is at most W(u, v) - 1; and the period is D(u, v) of some vertices (Leiserson and Saxe, "Retiming
+/// synchronous circuitry", with a delay for each pin).
+pub fn periods_by_paths()
+    ensures within { (g : Graph) (delays : Delays) (mode : Mode) (lags : List ℤ) (bound : ℕ) → IsWellFormed g
+        → IsLegal g mode lags → IsPeriodWithin g delays lags bound ↔ MeetsBound g delays lags bound }
+    ensures at_most { (g : Graph) (delays : Delays) (mode : Mode) (lags : List ℤ) (period bound : ℕ)
+        → IsWellFormed g → IsLegal g mode lags → IsPeriod g delays lags period
+        → (period ≤ bound) ↔ MeetsBound g delays lags bound }
+    ensures is_delay { (g : Graph) (delays : Delays) (mode : Mode) (lags : List ℤ) (period : ℕ) → IsWellFormed g
+        → IsLegal g mode lags → 0 < length g.vertices → IsPeriod g delays lags period
+        → IsPathDelay g delays period }
+{}
