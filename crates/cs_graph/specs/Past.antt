@@ -89,6 +89,13 @@ pub record HasPastOf (g : Graph) (lags : List ℤ) (c k : ℕ) : Type 0 where
   pub past : Past
   pub is : IsPastOf g lags c k past
 
+-- at each clock the past that is chosen for its context
+abbrev pub joined : ℕ → (ℕ → Past) → Past
+joined c pasts = record {
+  values = λ v i. (pasts (context_of c i)).values v i;
+  contents = λ e i. (pasts (context_of c i)).contents e i;
+}
+
 -- every weight is a multiple of c
 pub record IsSlowedBy (c : ℕ) (g : Graph) : Type 0 where
   pub turns : ℕ → ℕ

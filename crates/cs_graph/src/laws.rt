@@ -6,7 +6,7 @@ ghost use Rattle.cs_cells.specs.Memories.{Words};
 ghost use Rattle.cs_order.specs.Graphs.{HasNoRepeat};
 ghost use Rattle.cs_graph.specs.Invariant.{IsWellFormed};
 ghost use Rattle.cs_graph.specs.Lags.{lag_at, IsLegal, HasLengths, retimed, Justifies, HasStart};
-ghost use Rattle.cs_graph.specs.Past.{Past, lead, IsPast, AreRight, HasPast, HasPastOf, IsSlowedBy};
+ghost use Rattle.cs_graph.specs.Past.{Past, lead, IsPast, AreRight, HasPast, HasPastOf, IsPastOf, IsSlowedBy, joined};
 ghost use Rattle.cs_graph.specs.Period.{IsLeastWeight, IsPath, IsPathDelay, IsPeriod, IsPeriodWithin, MeetsBound, path_vertices, path_weight, path_weight_under};
 ghost use Rattle.cs_graph.specs.Run.{Row, Outs, RunsFor, HasOneRun, HasOneRunOn, RunsWith};
 ghost use Rattle.cs_graph.specs.Slow.{slow};
@@ -71,6 +71,15 @@ pub fn starts(machine: &Machine)
 {
     machine.keeps();
 }
+
+/// A past meets the formula of all clocks exactly where it meets that of each context; and where every weight is a
+/// multiple of the number of contexts, pasts of each context join into one.
+pub fn pasts_by_context()
+    ensures one { (g : Graph) (lags : List ℤ) (c : ℕ) (past : Past) → 0 < c
+        → IsPast g lags past ↔ ((k : ℕ) → k < c → IsPastOf g lags c k past) }
+    ensures joined { (g : Graph) (lags : List ℤ) (c : ℕ) (pasts : ℕ → Past) → 0 < c → IsSlowedBy c g
+        → IsPast g lags (joined c pasts) ↔ ((k : ℕ) → k < c → IsPastOf g lags c k (pasts k)) }
+{}
 
 /// Lags have one period.
 pub fn one_period()

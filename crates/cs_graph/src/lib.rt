@@ -26,8 +26,8 @@ pub use error::BuildError;
 pub use graph::Graph;
 pub use lags::are_within;
 pub use laws::{
-    contexts_alone, least_paths, one_period, one_run, periods_by_paths, registers_of_paths,
-    retimed_graphs, right_contents, starts, values_ahead,
+    contexts_alone, least_paths, one_period, one_run, pasts_by_context, periods_by_paths,
+    registers_of_paths, retimed_graphs, right_contents, starts, values_ahead,
 };
 pub use machine::Machine;
 pub use memory::Memory;
