@@ -1,6 +1,6 @@
 -- Legal lags, vertex by vertex and edge by edge.
-use Rattle.std.proofs.Common.{◌≡◌, ℕ, zero, suc, ◌<◌, ◌≤◌, List, [], ◌∷◌, length, Some, refl, inl, inr, arith}
-use Rattle.std.specs.Prelude.{ℤ, pos, ◌+ℤ◌, ◌-ℤ◌, ◌≤ℤ◌, slice_get}
+use Rattle.std.proofs.Common.{◌≡◌, ℕ, zero, suc, ◌+◌, ◌<◌, ◌≤◌, List, [], ◌∷◌, length, Some, refl, inl, inr, arith}
+use Rattle.std.specs.Prelude.{ℤ, pos, ◌+ℤ◌, ◌-ℤ◌, ◌≤ℤ◌, slice_get, unsigned_abs}
 use Rattle.std.proofs.lemmas.Int.{ints}
 use Rattle.std.proofs.lemmas.Bool.{cases_lt}
 use Rattle.cs_base.specs.declared.contexts.Mode.{Mode}
@@ -9,7 +9,7 @@ use Rattle.cs_graph.specs.declared.vertex.Vertex.{Vertex}
 use Rattle.cs_graph.specs.declared.edge.Edge.{Edge}
 use Rattle.cs_graph.specs.declared.graph.Graph.{Graph}
 use Rattle.cs_graph.specs.Order.{no_lags}
-use Rattle.cs_graph.specs.Lags.{lag_at, weight_under, IsLegalLag, IsLegal}
+use Rattle.cs_graph.specs.Lags.{lag_at, weight_under, IsLegalLag, IsLegal, AreWithin}
 
 -- each vertex may have its lag
 abbrev pub LagsAre : List Vertex → Mode → List ℤ → Type 0
@@ -30,6 +30,47 @@ past_lag : (lags : List ℤ) (v : ℕ) → length lags ≤ v → lag_at lags v �
 past_lag [] v h = refl
 past_lag (z ∷ lags) zero h = absurd (omega arith)
 past_lag (z ∷ lags) (suc v) h = past_lag lags v (omega arith)
+
+-- ---- lags are within some reach
+
+farther : (z w : ℤ) (reach : ℕ) → w ≤ℤ pos reach → w ≤ℤ pos (unsigned_abs z + reach)
+farther z w reach h = omega (arith, ints)
+
+farther_below : (z w : ℤ) (reach : ℕ) → pos 0 ≤ℤ (w +ℤ pos reach) → pos 0 ≤ℤ (w +ℤ pos (unsigned_abs z + reach))
+farther_below z w reach h = omega (arith, ints)
+
+reaches : (z : ℤ) (reach : ℕ) → z ≤ℤ pos (unsigned_abs z + reach)
+reaches z reach = omega (arith, ints)
+
+reaches_below : (z : ℤ) (reach : ℕ) → pos 0 ≤ℤ (z +ℤ pos (unsigned_abs z + reach))
+reaches_below z reach = omega (arith, ints)
+
+high_of : (z : ℤ) (lags : List ℤ) (reach : ℕ) → AreWithin reach lags → (v : ℕ)
+    → (lag_at (z ∷ lags) v) ≤ℤ pos (unsigned_abs z + reach)
+high_of z lags reach within zero = reaches z reach
+high_of z lags reach within (suc v) = farther z (lag_at lags v) reach (within.high v)
+
+low_of : (z : ℤ) (lags : List ℤ) (reach : ℕ) → AreWithin reach lags → (v : ℕ)
+    → pos 0 ≤ℤ (lag_at (z ∷ lags) v +ℤ pos (unsigned_abs z + reach))
+low_of z lags reach within zero = reaches_below z reach
+low_of z lags reach within (suc v) = farther_below z (lag_at lags v) reach (within.low v)
+
+none_high : pos 0 ≤ℤ pos 0
+none_high = omega (arith, ints)
+
+none_low : pos 0 ≤ℤ (pos 0 +ℤ pos 0)
+none_low = omega (arith, ints)
+
+pub reach_of : (lags : List ℤ) → (reach : ℕ) × AreWithin reach lags
+reach_of [] = (0, record { high = λ v. none_high; low = λ v. none_low })
+reach_of (z ∷ lags) = let rest = reach_of lags in (
+  unsigned_abs z + rest.0,
+  record {
+    high = high_of z lags rest.0
+        rest.1;
+    low = low_of z lags rest.0 rest.1;
+  },
+)
 
 -- a place within a list holds something
 pub got : {A : Type 0} (xs : List A) (i : ℕ) → i < length xs → (x : A) × (slice_get xs i ≡ Some x)

@@ -7,7 +7,7 @@ use Rattle.cs_graph.specs.declared.vertex.Feed.TheVariants.{Tied, Edge as Along}
 use Rattle.cs_graph.specs.declared.vertex.Vertex.{Vertex}
 use Rattle.cs_graph.specs.declared.edge.Edge.{Edge}
 use Rattle.cs_graph.specs.declared.graph.Graph.{Graph}
-use Rattle.cs_graph.specs.Run.{Row, Outs, seen_edge, seen, value_at, words_after, first_words, Settles, RunsFor, AgreeFor, HasOneRun}
+use Rattle.cs_graph.specs.Run.{Row, Outs, seen_edge, seen, value_at, words_after, first_words, Settles, RunsFor, AgreeFor, HasOneRun, HasOneRunOn}
 use Rattle.cs_graph.specs.Invariant.{IsWellFormed}
 use Rattle.cs_graph.proofs.Sees.{SameSight, value_same, words_same, carried_same, edge_same}
 
@@ -20,6 +20,16 @@ sooner m (suc w) n s p q is small low = let same : n ≡ m + suc w = omega arith
 
 later : (m n s : ℕ) → m < n → m * s + s ≤ n * s
 later m n s h = grind arith
+
+-- a run over rows is one over others that are the same for so long
+pub same_rows : (bounded : Bool) (g : Graph) (clocks : ℕ) (row row' : ℕ → Row) (value : ℕ → Outs) (words : ℕ → ℕ
+    → Words) → ((n : ℕ) → n < clocks → row n ≡ row' n) → RunsFor bounded g clocks row value words
+    → RunsFor bounded g clocks row' value words
+same_rows bounded g clocks row row' value words same r = record {
+  begins = r.begins;
+  settles = λ n h v o. r.settles n h v o ∙ ap (λ x. value_at g x (words n) (seen g value n) v o) (same n h);
+  goes_on = r.goes_on;
+}
 
 module _ (g : Graph) (whole : IsWellFormed g) where
   pub stride : ℕ
@@ -184,3 +194,13 @@ module _ (g : Graph) (whole : IsWellFormed g) where
       only = λ value' words' r.
           runs_agree value_of value' words_of words' (run_of clocks) r;
     }
+
+  pub one_run_on : (bounded : Bool) (row : ℕ → Row) → HasOneRunOn bounded g row
+  one_run_on bounded row = record {
+    value = value_of bounded 0 row;
+    words = words_of bounded 0 row;
+    run = run_of bounded 0 row;
+    begins = λ clocks row' value' words' same r.
+        runs_agree bounded clocks row (value_of bounded 0 row) value' (words_of bounded 0 row) words' (run_of
+        bounded 0 row clocks) (same_rows bounded g clocks row' row value' words' same r);
+  }

@@ -18,11 +18,12 @@ use Rattle.cs_graph.specs.declared.vertex.Feed.{Feed}
 use Rattle.cs_graph.specs.declared.vertex.Feed.TheVariants.{Tied, Edge as Along}
 use Rattle.cs_graph.specs.declared.vertex.Vertex.{Vertex}
 use Rattle.cs_graph.specs.declared.edge.Edge.{Edge}
+use Rattle.cs_graph.specs.declared.contents.Contents.{Contents}
 use Rattle.cs_graph.specs.declared.graph.Graph.{Graph}
 use Rattle.cs_graph.specs.Run.{Row, Outs, carried, seen_edge, seen, output_of, vertex_output, value_at, inputs_before, RunsFor, row_of, RunsWith}
 use Rattle.cs_graph.specs.Kinds.{is_pinned}
 use Rattle.cs_graph.specs.Invariant.{HasOrder, IsWellFormed}
-use Rattle.cs_graph.specs.Lags.{lag_at, weight_under, IsLegal, Contents, retimed_edge, retimed, Justifies, AreWithin}
+use Rattle.cs_graph.specs.Lags.{lag_at, weight_under, IsLegal, of_edge, retimed_edge, retimed, Justifies, AreWithin}
 use Rattle.cs_graph.specs.Past.{Past, lead, ever, past_carried, past_edge, past_seen, IsPast, AreRight}
 use Rattle.cs_graph.proofs.Lists.{map_same}
 use Rattle.cs_graph.proofs.Sees.{SameSight, SamePinned, value_same, words_same, outputs_same, carried_same}
@@ -195,7 +196,7 @@ module _ (g : Graph) (whole : IsWellFormed g) (mode : Mode) (lags : List ℤ) (l
   shifted m v o = signal (pos m -ℤ lag_at lags v) v o
 
   shifted_carried : (e : ℕ) (d : Edge) (s : ℤ) → slice_get g.edges e ≡ Some d → ((j : ℕ) → s ≡ negsuc j
-      → j < length (get_or k e [])) → carried (retimed_edge lags k (e, d)) shifted s ≡ line e d (s -ℤ
+      → j < length (of_edge k e)) → carried (retimed_edge lags k (e, d)) shifted s ≡ line e d (s -ℤ
       lag_at lags d.from)
   unfolding shifted line
   shifted_carried e d (pos m) found h = along e d (pos m -ℤ lag_at lags d.from) found (λ i at. shift_up m
@@ -210,7 +211,7 @@ module _ (g : Graph) (whole : IsWellFormed g) (mode : Mode) (lags : List ℤ) (l
   edge_shifted e m v (Some d) found to =
       let w' = unsigned_abs (weight_under lags d) in
       shifted_carried e d (pos m -ℤ pos w') found (λ j at. let low = held_at m w' j at in let many =
-      right.count e d found in omega arith)
+      right.lengths.each e d found in omega arith)
       ∙ ap (line e d) (sees_at m d.weight (lag_at lags d.from) (lag_at lags d.to) (legal.weights e d found))
       ∙ ap (λ u. line e d ((pos m -ℤ lag_at lags u) -ℤ pos d.weight)) (to d refl)
 
@@ -309,7 +310,7 @@ place_within depth reach span place h low = let most = mul-le-mul_right span h i
 
 module _ (g : Graph) (whole : IsWellFormed g) (mode : Mode) (lags : List ℤ) (legal : IsLegal g mode lags)
     (reach : ℕ) (within : AreWithin reach lags) (k : Contents) (count : (e : ℕ) (d : Edge)
-    → slice_get g.edges e ≡ Some d → length (get_or k e []) ≡ unsigned_abs (weight_under lags d)) where
+    → slice_get g.edges e ≡ Some d → length (of_edge k e) ≡ unsigned_abs (weight_under lags d)) where
   came_from : (e : ℕ) (d' : Edge) → slice_get (retimed lags k g).edges e ≡ Some d'
       → (d : Edge) × (slice_get g.edges e ≡ Some d) × (d' ≡ retimed_edge lags k (e, d))
   came_from e d' is = found_edge lags k e (slice_get g.edges e) d' (sym (edge_of lags k g e) ∙ is)
@@ -378,7 +379,7 @@ module _ (g : Graph) (whole : IsWellFormed g) (mode : Mode) (lags : List ℤ) (l
     (right : AreRight g lags past k) where
   pub right_justifies : Justifies g lags k
   right_justifies rows value value' words words' r r' v i n m x f is at low low' when =
-      let whole' = retimed_whole g whole mode lags legal reach within k right.count in
+      let whole' = retimed_whole g whole mode lags legal reach within k right.lengths.each in
       let total = value_of g whole false (length rows) (row_of rows) in
       let held = words_of g whole false (length rows) (row_of rows) in
       let run = run_of g whole false (length rows) (row_of rows) in

@@ -4,6 +4,8 @@ use Rattle.std.specs.Prelude.{ℤ, pos, negsuc, ◌+ℤ◌, ◌-ℤ◌, ◌≤�
 use Rattle.std.specs.List.{enumerate_from}
 use Rattle.std.proofs.lemmas.Int.{ints}
 use Rattle.std.proofs.lemmas.Bool.{cases_lt}
+use Rattle.std.proofs.lemmas.List.{length-map}
+use Rattle.std.proofs.lemmas.List.FromFn.{length-enumerate_from}
 use Rattle.std.proofs.lemmas.Option.{slice_get-map, get_or_from_slice_get}
 use Rattle.cs_cells.specs.declared.gate.Kind.{Kind}
 use Rattle.cs_cells.specs.Gates.{gate_value}
@@ -14,13 +16,14 @@ use Rattle.cs_graph.specs.declared.vertex.Feed.{Feed}
 use Rattle.cs_graph.specs.declared.vertex.Feed.TheVariants.{Tied, Edge as Along}
 use Rattle.cs_graph.specs.declared.vertex.Vertex.{Vertex}
 use Rattle.cs_graph.specs.declared.edge.Edge.{Edge}
+use Rattle.cs_graph.specs.declared.contents.Contents.{Contents}
 use Rattle.cs_graph.specs.declared.graph.Graph.{Graph}
-use Rattle.cs_graph.specs.Run.{Row, Outs, carried, seen_edge, seen, value_at, RunsFor, RunsOn, row_of}
+use Rattle.cs_graph.specs.Run.{Row, Outs, carried, seen_edge, seen, RunsOn, row_of}
 use Rattle.cs_graph.specs.Invariant.{IsWellFormed}
-use Rattle.cs_graph.specs.Lags.{lag_at, weight_under, IsLegal, Contents, retimed_edge, retimed, AreWithin, HasStart}
+use Rattle.cs_graph.specs.Lags.{lag_at, weight_under, IsLegal, of_edge, retimed_edge, retimed, AreWithin, HasStart}
 use Rattle.cs_graph.specs.Past.{Past, lead, past_carried, past_edge, past_seen, ever, IsPast, AreRight, HasPast}
 use Rattle.cs_graph.proofs.Lists.{map_same}
-use Rattle.cs_graph.proofs.Runs.{value_of, words_of, run_of}
+use Rattle.cs_graph.proofs.Runs.{value_of, words_of, run_of, same_rows}
 use Rattle.cs_graph.proofs.Shifted.{still_or_gate, if_below, if_above, lead_is, edge_of, slice_get-enumerate, retimed_whole, right_justifies}
 use Rattle.cs_graph.proofs.Pasts.{ahead_same, gate_gives}
 
@@ -54,9 +57,9 @@ module _ (g : Graph) (whole : IsWellFormed g) (mode : Mode) (lags : List ℤ) (l
       lag_at lags p.1.from))
 
   pub contents_of : Contents
-  contents_of = map list_of (enumerate_from 0 g.edges)
+  contents_of = record { of = map list_of (enumerate_from 0 g.edges) }
 
-  list_at : (e : ℕ) (d : Edge) → slice_get g.edges e ≡ Some d → get_or contents_of e [] ≡ list_of (e, d)
+  list_at : (e : ℕ) (d : Edge) → slice_get g.edges e ≡ Some d → of_edge contents_of e ≡ list_of (e, d)
   unfolding contents_of
   list_at e d found = get_or_from_slice_get (map list_of (enumerate_from 0 g.edges)) e (list_of (e, d)) [] (
       slice_get-map list_of (enumerate_from 0 g.edges) e
@@ -65,7 +68,7 @@ module _ (g : Graph) (whole : IsWellFormed g) (mode : Mode) (lags : List ℤ) (l
       ∙ (let place : 0 + e ≡ e = omega arith in ap (λ i. Some (list_of (i, d))) place))
 
   ever_same : (e j : ℕ) (d : Edge) (value : ℕ → Outs) (row : ℕ → Row) (words : ℕ → ℕ → Words)
-      → RunsOn g row value words → (z : ℤ) → negsuc j -ℤ lag_at lags d.from ≡ z
+      → RunsOn false g row value words → (z : ℤ) → negsuc j -ℤ lag_at lags d.from ≡ z
       → ever lags past ahead e d z ≡ ever lags past value e d z
   unfolding ahead
   ever_same e j d value row words run (pos t) at =
@@ -75,10 +78,13 @@ module _ (g : Graph) (whole : IsWellFormed g) (mode : Mode) (lags : List ℤ) (l
   ever_same e j d value row words run (negsuc i) at = refl
 
   pub contents_right : AreRight g lags past contents_of
-  unfolding list_of
+  unfolding list_of contents_of
   contents_right = record {
-    count = λ e d found. ap length (list_at e d found) ∙ length-listed (unsigned_abs (weight_under lags d))
-        (λ j. ever lags past ahead e d (negsuc j -ℤ lag_at lags d.from));
+    lengths = record {
+      lists = length-map (enumerate_from 0 g.edges) list_of ∙ length-enumerate_from 0 g.edges;
+      each = λ e d found. ap length (list_at e d found) ∙ length-listed (unsigned_abs (weight_under lags d))
+          (λ j. ever lags past ahead e d (negsuc j -ℤ lag_at lags d.from));
+    };
     each = λ e j d found low row value words run.
         let many = ap length (list_at e d found) ∙ length-listed (unsigned_abs (weight_under lags d)) (λ j.
         ever lags past ahead e d (negsuc j -ℤ lag_at lags d.from)) in
@@ -94,22 +100,13 @@ start_of_past g whole mode lags legal reach within p =
     let right = contents_right g whole mode lags legal p.past in
     record {
       contents = contents_of g whole mode lags legal p.past;
-      count = right.count;
+      lengths = right.lengths;
       justifies =
           right_justifies g whole mode lags legal reach within p.past p.is (contents_of g whole mode lags
           legal p.past) right;
     }
 
 -- ---- the past that a start gives: it is read off the retimed run over rows of zeros
-
-same_rows : (g : Graph) (clocks : ℕ) (row row' : ℕ → Row) (value : ℕ → Outs) (words : ℕ → ℕ → Words)
-    → ((n : ℕ) → n < clocks → row n ≡ row' n) → RunsFor false g clocks row value words
-    → RunsFor false g clocks row' value words
-same_rows g clocks row row' value words same r = record {
-  begins = r.begins;
-  settles = λ n h v o. r.settles n h v o ∙ ap (λ x. value_at g x (words n) (seen g value n) v o) (same n h);
-  goes_on = r.goes_on;
-}
 
 row_of-replicate : (c n : ℕ) (x : Row) → n < c → x ≡ row_of (replicate c x) n
 row_of-replicate zero n x h = absurd (omega arith)
@@ -157,18 +154,18 @@ module _ (g : Graph) (whole : IsWellFormed g) (mode : Mode) (lags : List ℤ) (l
 
   later_whole : IsWellFormed later
   unfolding later
-  later_whole = retimed_whole g whole mode lags legal reach within start.contents start.count
+  later_whole = retimed_whole g whole mode lags legal reach within start.contents start.lengths.each
 
   bits : ℕ → Outs
   bits = value_of later later_whole false 0 (λ n. zeros)
 
-  bits_run : RunsOn later (λ n. zeros) bits (words_of later later_whole false 0 (λ n. zeros))
+  bits_run : RunsOn false later (λ n. zeros) bits (words_of later later_whole false 0 (λ n. zeros))
   unfolding bits
   bits_run = run_of later later_whole false 0 (λ n. zeros)
 
   content_at : ℕ → ℤ → Bool
   content_at e (pos n) = false
-  content_at e (negsuc j) = get_or (get_or start.contents e []) j false
+  content_at e (negsuc j) = get_or (of_edge start.contents e) j false
 
   content_of : ℕ → Option Edge → ℕ → Bool
   content_of e None i = false
@@ -235,7 +232,7 @@ module _ (g : Graph) (whole : IsWellFormed g) (mode : Mode) (lags : List ℤ) (l
       let many = length-replicate' count zeros in
       let own = value_of g whole false 0 (row_of rows) in
       let own_run = run_of g whole false 0 (row_of rows) (length rows) in
-      let moved = same_rows later (length rows) (λ n. zeros) (row_of rows) bits (words_of later later_whole
+      let moved = same_rows false later (length rows) (λ n. zeros) (row_of rows) bits (words_of later later_whole
       false 0 (λ n. zeros)) (λ t h. row_of-replicate count t zeros (omega arith)) (bits_run (length
       rows)) in
       let alike = start.justifies rows own bits (words_of g whole false 0 (row_of rows)) (words_of later

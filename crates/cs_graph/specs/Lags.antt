@@ -6,6 +6,7 @@ use Rattle.cs_base.specs.declared.contexts.Mode.TheVariants.{Forward}
 use Rattle.cs_graph.specs.declared.vertex.VertexKind.{VertexKind}
 use Rattle.cs_graph.specs.declared.vertex.Vertex.{Vertex}
 use Rattle.cs_graph.specs.declared.edge.Edge.{Edge}
+use Rattle.cs_graph.specs.declared.contents.Contents.{Contents}
 use Rattle.cs_cells.specs.Memories.{Words}
 use Rattle.cs_graph.specs.declared.vertex.Feed.{Feed}
 use Rattle.cs_graph.specs.declared.graph.Graph.{Graph}
@@ -28,16 +29,15 @@ pub record IsLegal (g : Graph) (mode : Mode) (lags : List ℤ) : Type 0 where
   pub weights : (e : ℕ) (d : Edge) → slice_get g.edges e ≡ Some d → pos 0 ≤ℤ (weight_under lags d)
   pub ahead : mode ≡ Forward → (v : ℕ) → (lag_at lags v) ≤ℤ pos 0
 
--- contents for each edge, nearest the driver first
-abbrev pub Contents : Type 0
-Contents = List (List Bool)
+-- the contents of edge e, none past the end of the list
+abbrev pub of_edge : Contents → ℕ → List Bool
+of_edge k e = get_or k.of e []
 
 -- an edge with its weight under these lags, and with its contents among these
 abbrev pub retimed_edge : List ℤ → Contents → ℕ × Edge → Edge
 retimed_edge lags k p = record p.1 {
   weight = unsigned_abs (weight_under lags p.1);
-  contents = get_or k p.0
-      [];
+  contents = of_edge k p.0;
 }
 
 -- the same vertices and memories, with the weights of these lags and these contents
@@ -52,11 +52,16 @@ Justifies g lags k = (rows : List Row) (value value' : ℕ → Outs) (words word
     → slice_get x.pins i ≡ Some f → n < length rows → m < length rows → pos m ≡ pos n +ℤ lag_at lags v
     → seen (retimed lags k g) value' m f ≡ seen g value n f
 
+-- contents for each edge, as many as it has registers under these lags
+pub record HasLengths (g : Graph) (lags : List ℤ) (k : Contents) : Type 0 where
+  pub lists : length k.of ≡ length g.edges
+  pub each : (e : ℕ) (d : Edge) → slice_get g.edges e ≡ Some d
+      → length (of_edge k e) ≡ unsigned_abs (weight_under lags d)
+
 -- contents of the right lengths that justify these lags
 pub record HasStart (g : Graph) (lags : List ℤ) : Type 0 where
   pub contents : Contents
-  pub count : (e : ℕ) (d : Edge) → slice_get g.edges e ≡ Some d
-      → length (get_or contents e []) ≡ unsigned_abs (weight_under lags d)
+  pub lengths : HasLengths g lags contents
   pub justifies : Justifies g lags contents
 
 -- lags between -reach and reach

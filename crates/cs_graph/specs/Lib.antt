@@ -4,6 +4,7 @@ pub mod Run
 pub mod Order
 pub mod Invariant
 pub mod Slow
+pub mod OtherContents
 pub mod Lags
 pub mod Past
 pub mod Period

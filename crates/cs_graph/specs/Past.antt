@@ -1,6 +1,6 @@
 -- Values before clock 0, and contents that continue them (after Touati and Brayton, "Computing the initial states of
 -- retimed circuits", 1993: a start of a retimed circuit is found by going back from the old one).
-use Rattle.std.specs.Prelude.{◌≡◌, ℕ, ◌+◌, ◌-◌, ◌*◌, ◌%◌, ℤ, pos, negsuc, ◌-ℤ◌, ◌<◌, ◌≤◌, List, [], length, get_or, map, slice_get, Option, Some, None, Bool, false, if◌then◌else◌, nat_lt, unsigned_abs}
+use Rattle.std.specs.Prelude.{◌≡◌, ℕ, ◌+◌, ◌-◌, ◌*◌, ◌%◌, ℤ, pos, negsuc, ◌-ℤ◌, ◌<◌, ◌≤◌, List, length, get_or, map, slice_get, Option, Some, None, Bool, false, if◌then◌else◌, nat_lt}
 use Rattle.cs_cells.specs.declared.gate.Kind.{Kind}
 use Rattle.cs_cells.specs.Gates.{gate_value}
 use Rattle.cs_cells.specs.Memories.{Words}
@@ -9,9 +9,10 @@ use Rattle.cs_graph.specs.declared.vertex.Feed.{Feed}
 use Rattle.cs_graph.specs.declared.vertex.Feed.TheVariants.{Tied, Edge as Along}
 use Rattle.cs_graph.specs.declared.vertex.Vertex.{Vertex}
 use Rattle.cs_graph.specs.declared.edge.Edge.{Edge}
+use Rattle.cs_graph.specs.declared.contents.Contents.{Contents}
 use Rattle.cs_graph.specs.declared.graph.Graph.{Graph}
 use Rattle.cs_graph.specs.Run.{Row, Outs, RunsOn}
-use Rattle.cs_graph.specs.Lags.{lag_at, weight_under, Contents}
+use Rattle.cs_graph.specs.Lags.{lag_at, of_edge, HasLengths}
 
 -- values of vertices and contents of edges at the clocks -1, -2 and on, which are numbered 0, 1 and on
 pub record Past : Type 0 where
@@ -56,11 +57,10 @@ pub record IsPast (g : Graph) (lags : List ℤ) (past : Past) : Type 0 where
 -- content j of a retimed edge is what the edge carries at clock -(j + 1) less its driver's lag, whatever
 -- the rows
 pub record AreRight (g : Graph) (lags : List ℤ) (past : Past) (k : Contents) : Type 0 where
-  pub count : (e : ℕ) (d : Edge) → slice_get g.edges e ≡ Some d
-      → length (get_or k e []) ≡ unsigned_abs (weight_under lags d)
-  pub each : (e j : ℕ) (d : Edge) → slice_get g.edges e ≡ Some d → j < length (get_or k e []) → (row : ℕ
-      → Row) (value : ℕ → Outs) (words : ℕ → ℕ → Words) → RunsOn g row value words
-      → get_or (get_or k e []) j false ≡ ever lags past value e d (negsuc j -ℤ lag_at lags d.from)
+  pub lengths : HasLengths g lags k
+  pub each : (e j : ℕ) (d : Edge) → slice_get g.edges e ≡ Some d → j < length (of_edge k e) → (row : ℕ
+      → Row) (value : ℕ → Outs) (words : ℕ → ℕ → Words) → RunsOn false g row value words
+      → get_or (of_edge k e) j false ≡ ever lags past value e d (negsuc j -ℤ lag_at lags d.from)
 
 -- these lags have a past
 pub record HasPast (g : Graph) (lags : List ℤ) : Type 0 where
@@ -88,6 +88,13 @@ pub record IsPastOf (g : Graph) (lags : List ℤ) (c k : ℕ) (past : Past) : Ty
 pub record HasPastOf (g : Graph) (lags : List ℤ) (c k : ℕ) : Type 0 where
   pub past : Past
   pub is : IsPastOf g lags c k past
+
+-- at each clock the past that is chosen for its context
+abbrev pub joined : ℕ → (ℕ → Past) → Past
+joined c pasts = record {
+  values = λ v i. (pasts (context_of c i)).values v i;
+  contents = λ e i. (pasts (context_of c i)).contents e i;
+}
 
 -- every weight is a multiple of c
 pub record IsSlowedBy (c : ℕ) (g : Graph) : Type 0 where

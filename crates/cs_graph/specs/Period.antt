@@ -1,11 +1,11 @@
 -- Delays of paths, periods, and the path matrices W and D (Leiserson and Saxe).
-use Rattle.std.specs.Prelude.{◌≡◌, ℕ, ◌+◌, ◌<◌, ◌≤◌, ◌⊎◌, ℤ, pos, ◌+ℤ◌, map, List, [], ◌∷◌, length, get_or, slice_get, Option, Some, None}
+use Rattle.std.specs.Prelude.{◌≡◌, ℕ, ◌+◌, ◌<◌, ◌≤◌, ◌⊎◌, ℤ, pos, ◌+ℤ◌, ◌-ℤ◌, ◌≤ℤ◌, map, List, [], ◌∷◌, length, get_or, slice_get, Option, Some, None}
 use Rattle.cs_base.specs.declared.contexts.Mode.{Mode}
 use Rattle.cs_graph.specs.declared.vertex.Vertex.{Vertex}
 use Rattle.cs_graph.specs.declared.edge.Edge.{Edge}
 use Rattle.cs_graph.specs.declared.delays.Delays.{Delays}
 use Rattle.cs_graph.specs.declared.graph.Graph.{Graph}
-use Rattle.cs_graph.specs.Lags.{weight_under, IsLegal}
+use Rattle.cs_graph.specs.Lags.{lag_at, weight_under, IsLegal}
 
 -- one delay for each pin of these vertices
 abbrev pub ArePinsOf : List Vertex → List (List ℕ) → Type 0
@@ -135,3 +135,17 @@ pub record IsGreatestDelay (g : Graph) (delays : Delays) (u v weight delay : ℕ
 pub record IsPathPair (g : Graph) (delays : Delays) (u v weight delay : ℕ) : Type 0 where
   pub least_weight : IsLeastWeight g u v weight
   pub greatest_delay : IsGreatestDelay g delays u v weight delay
+
+-- the delay is D(u, v) of some vertices
+pub record IsPathDelay (g : Graph) (delays : Delays) (delay : ℕ) : Type 0 where
+  pub first : ℕ
+  pub last : ℕ
+  pub weight : ℕ
+  pub among : first < length g.vertices
+  pub pair : IsPathPair g delays first last weight delay
+
+-- r(u) - r(v) is at most W(u, v) - 1 wherever D(u, v) is above the bound
+abbrev pub MeetsBound : Graph → Delays → List ℤ → ℕ → Type 0
+MeetsBound g delays lags bound =
+    (u v weight delay : ℕ) → u < length g.vertices → IsPathPair g delays u v weight delay → bound < delay
+    → (lag_at lags u -ℤ lag_at lags v) ≤ℤ (pos weight -ℤ pos 1)

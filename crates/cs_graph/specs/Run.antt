@@ -134,8 +134,8 @@ pub record RunsFor (bounded : Bool) (g : Graph) (clocks : ℕ) (row : ℕ → Ro
       → words (suc n) i ≡ words_after bounded g (seen g value n) (words n) i
 
 -- for ever
-abbrev pub RunsOn : Graph → (ℕ → Row) → (ℕ → Outs) → (ℕ → ℕ → Words) → Type 0
-RunsOn g row value words = (n : ℕ) → RunsFor false g n row value words
+abbrev pub RunsOn : Bool → Graph → (ℕ → Row) → (ℕ → Outs) → (ℕ → ℕ → Words) → Type 0
+RunsOn bounded g row value words = (n : ℕ) → RunsFor bounded g n row value words
 
 -- row n of a list, none past its end
 abbrev pub row_of : List Row → ℕ → Row
@@ -160,6 +160,15 @@ pub record HasOneRun (bounded : Bool) (g : Graph) (clocks : ℕ) (row : ℕ → 
   pub words : ℕ → ℕ → Words
   pub run : RunsFor bounded g clocks row value words
   pub only : (value' : ℕ → Outs) (words' : ℕ → ℕ → Words) → RunsFor bounded g clocks row value' words'
+      → AgreeFor clocks value value' words words'
+
+-- there is a run for ever, and each run of so many clocks over the same rows is its beginning
+pub record HasOneRunOn (bounded : Bool) (g : Graph) (row : ℕ → Row) : Type 0 where
+  pub value : ℕ → Outs
+  pub words : ℕ → ℕ → Words
+  pub run : RunsOn bounded g row value words
+  pub begins : (clocks : ℕ) (row' : ℕ → Row) (value' : ℕ → Outs) (words' : ℕ → ℕ → Words)
+      → ((n : ℕ) → n < clocks → row' n ≡ row n) → RunsFor bounded g clocks row' value' words'
       → AgreeFor clocks value value' words words'
 
 -- ---- outputs

@@ -5,22 +5,24 @@ ghost use Rattle.cs_base.specs.declared.contexts.Mode.{Mode};
 ghost use Rattle.cs_cells.specs.Memories.{Words};
 ghost use Rattle.cs_order.specs.Graphs.{HasNoRepeat};
 ghost use Rattle.cs_graph.specs.Invariant.{IsWellFormed};
-ghost use Rattle.cs_graph.specs.Lags.{lag_at, IsLegal, AreWithin, Contents, retimed, Justifies, HasStart};
-ghost use Rattle.cs_graph.specs.Past.{Past, lead, IsPast, AreRight, HasPast, HasPastOf, IsSlowedBy};
-ghost use Rattle.cs_graph.specs.Period.{IsLeastWeight, IsPath, IsPeriod, path_vertices, path_weight, path_weight_under};
-ghost use Rattle.cs_graph.specs.Run.{Row, Outs, RunsFor, HasOneRun, RunsWith};
+ghost use Rattle.cs_graph.specs.Lags.{lag_at, IsLegal, HasLengths, retimed, Justifies, HasStart};
+ghost use Rattle.cs_graph.specs.Past.{Past, lead, IsPast, AreRight, HasPast, HasPastOf, IsPastOf, IsSlowedBy, joined};
+ghost use Rattle.cs_graph.specs.Period.{IsLeastWeight, IsPath, IsPathDelay, IsPeriod, IsPeriodWithin, MeetsBound, path_vertices, path_weight, path_weight_under};
+ghost use Rattle.cs_graph.specs.Run.{Row, Outs, RunsFor, HasOneRun, HasOneRunOn, RunsWith};
 ghost use Rattle.cs_graph.specs.Slow.{slow};
+ghost use Rattle.cs_graph.specs.declared.contents.Contents.{Contents};
 ghost use Rattle.cs_graph.specs.declared.delays.Delays.{Delays};
 ghost use Rattle.cs_graph.specs.declared.graph.Graph.{Graph};
 
 use crate::machine::Machine;
 
-/// A machine has exactly one run over any rows, and exactly one bounded run.
-pub fn one_run(machine: &Machine)
-    ensures { (bounded : Bool) (clocks : ℕ) (row : ℕ → Row) → HasOneRun bounded machine.now clocks row }
-{
-    machine.keeps();
-}
+/// A well-formed graph has exactly one run over any rows, and exactly one bounded run; and one for ever, of which
+/// each of these is the beginning.
+pub fn one_run()
+    ensures clocks { (bounded : Bool) (g : Graph) (clocks : ℕ) (row : ℕ → Row) → IsWellFormed g
+        → HasOneRun bounded g clocks row }
+    ensures for_ever { (bounded : Bool) (g : Graph) (row : ℕ → Row) → IsWellFormed g → HasOneRunOn bounded g row }
+{}
 
 /// What a machine without memories answers when each register is several, it answers to each context alone.
 pub fn contexts_alone()
@@ -29,19 +31,20 @@ pub fn contexts_alone()
         → RunsWith bounded g (part k c rows) (part k c outputs) }
 {}
 
+/// A well-formed graph stays so under legal lags, with any contents of the right lengths.
+pub fn retimed_graphs()
+    ensures { (g : Graph) (mode : Mode) (lags : List ℤ) (k : Contents) → IsWellFormed g → IsLegal g mode lags
+        → HasLengths g lags k → IsWellFormed (retimed lags k g) }
+{}
+
 /// For legal lags, contents that continue a past justify the lags; the retimed machine then answers what the
-/// machine answers, and is well formed.
+/// machine answers.
 pub fn right_contents(machine: &Machine)
-    ensures justify { (mode : Mode) (lags : List ℤ) (reach : ℕ) (past : Past) (k : Contents)
-        → IsLegal machine.now mode lags → AreWithin reach lags → IsPast machine.now lags past
-        → AreRight machine.now lags past k → Justifies machine.now lags k }
-    ensures answer { (mode : Mode) (lags : List ℤ) (reach : ℕ) (past : Past) (k : Contents)
-        (rows outputs : List Row) → IsLegal machine.now mode lags → AreWithin reach lags
-        → IsPast machine.now lags past → AreRight machine.now lags past k
+    ensures justify { (mode : Mode) (lags : List ℤ) (past : Past) (k : Contents) → IsLegal machine.now mode lags
+        → IsPast machine.now lags past → AreRight machine.now lags past k → Justifies machine.now lags k }
+    ensures answer { (mode : Mode) (lags : List ℤ) (past : Past) (k : Contents) (rows outputs : List Row)
+        → IsLegal machine.now mode lags → IsPast machine.now lags past → AreRight machine.now lags past k
         → RunsWith false machine.now rows outputs → RunsWith false (retimed lags k machine.now) rows outputs }
-    ensures well_formed { (mode : Mode) (lags : List ℤ) (reach : ℕ) (past : Past) (k : Contents)
-        → IsLegal machine.now mode lags → AreWithin reach lags → AreRight machine.now lags past k
-        → IsWellFormed (retimed lags k machine.now) }
 {
     machine.keeps();
 }
@@ -59,8 +62,8 @@ pub fn values_ahead(machine: &Machine)
 /// Legal lags have a justifying start exactly where they have a past; where every weight is a multiple of the
 /// number of contexts, exactly where they have one for each context; and so have lags that are positive by less.
 pub fn starts(machine: &Machine)
-    ensures exactly { (mode : Mode) (lags : List ℤ) (reach : ℕ) → IsLegal machine.now mode lags
-        → AreWithin reach lags → HasStart machine.now lags ↔ HasPast machine.now lags }
+    ensures exactly { (mode : Mode) (lags : List ℤ) → IsLegal machine.now mode lags
+        → HasStart machine.now lags ↔ HasPast machine.now lags }
     ensures by_context { (lags : List ℤ) (c : ℕ) → 0 < c → IsSlowedBy c machine.now
         → HasPast machine.now lags ↔ ((k : ℕ) → k < c → HasPastOf machine.now lags c k) }
     ensures pass { (lags lags' : List ℤ) → ((v : ℕ) → lead (lag_at lags v) ≤ lead (lag_at lags' v))
@@ -68,6 +71,15 @@ pub fn starts(machine: &Machine)
 {
     machine.keeps();
 }
+
+/// A past meets the formula of all clocks exactly where it meets that of each context; and where every weight is a
+/// multiple of the number of contexts, pasts of each context join into one.
+pub fn pasts_by_context()
+    ensures one { (g : Graph) (lags : List ℤ) (c : ℕ) (past : Past) → 0 < c
+        → IsPast g lags past ↔ ((k : ℕ) → k < c → IsPastOf g lags c k past) }
+    ensures joined { (g : Graph) (lags : List ℤ) (c : ℕ) (pasts : ℕ → Past) → 0 < c → IsSlowedBy c g
+        → IsPast g lags (joined c pasts) ↔ ((k : ℕ) → k < c → IsPastOf g lags c k (pasts k)) }
+{}
 
 /// Lags have one period.
 pub fn one_period()
@@ -95,3 +107,17 @@ pub fn least_paths(machine: &Machine)
 {
     machine.keeps();
 }
+
+/// Legal lags have a period at most a bound exactly where, for all vertices u and v with D(u, v) above the bound,
+/// r(u) - r(v) is at most W(u, v) - 1; and the period is D(u, v) of some vertices (Leiserson and Saxe, "Retiming
+/// synchronous circuitry", with a delay for each pin).
+pub fn periods_by_paths()
+    ensures within { (g : Graph) (delays : Delays) (mode : Mode) (lags : List ℤ) (bound : ℕ) → IsWellFormed g
+        → IsLegal g mode lags → IsPeriodWithin g delays lags bound ↔ MeetsBound g delays lags bound }
+    ensures at_most { (g : Graph) (delays : Delays) (mode : Mode) (lags : List ℤ) (period bound : ℕ)
+        → IsWellFormed g → IsLegal g mode lags → IsPeriod g delays lags period
+        → (period ≤ bound) ↔ MeetsBound g delays lags bound }
+    ensures is_delay { (g : Graph) (delays : Delays) (mode : Mode) (lags : List ℤ) (period : ℕ) → IsWellFormed g
+        → IsLegal g mode lags → 0 < length g.vertices → IsPeriod g delays lags period
+        → IsPathDelay g delays period }
+{}

@@ -2,6 +2,7 @@
 #![tactic(auto)]
 
 mod builder;
+mod contents;
 mod delays;
 mod edge;
 mod error;
@@ -18,14 +19,15 @@ mod source;
 mod vertex;
 
 pub use builder::MachineBuilder;
+pub use contents::Contents;
 pub use delays::Delays;
 pub use edge::Edge;
 pub use error::BuildError;
 pub use graph::Graph;
 pub use lags::are_within;
 pub use laws::{
-    contexts_alone, least_paths, one_period, one_run, registers_of_paths, right_contents, starts,
-    values_ahead,
+    contexts_alone, least_paths, one_period, one_run, pasts_by_context, periods_by_paths,
+    registers_of_paths, retimed_graphs, right_contents, starts, values_ahead,
 };
 pub use machine::Machine;
 pub use memory::Memory;

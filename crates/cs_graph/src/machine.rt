@@ -1,23 +1,28 @@
 // Machines: a graph that keeps its invariant, with an order of its vertices.
-ghost use Rattle.std.specs.Prelude.{◌≡◌, ◌<◌, ◌≤◌, ◌^◌, length, slice_get, Some, IfOk, IsTrue, ◌↔◌};
+ghost use Rattle.std.specs.Prelude.{◌≡◌, ◌<◌, ◌≤◌, ◌^◌, length, slice_get, Some, None, IfErr, IfOk, IsTrue, OnOk, ◌↔◌};
 ghost use Rattle.cs_graph.specs.Invariant.{IsMachine};
 ghost use Rattle.cs_graph.specs.Order.{IsOrder, no_lags};
 ghost use Rattle.cs_graph.specs.Kinds.{is_pinned};
+ghost use Rattle.cs_graph.specs.Faults.{TellsLimit};
 ghost use Rattle.cs_graph.specs.Lags.{weight_under, AreWithin, IsLegal};
+ghost use Rattle.cs_graph.specs.OtherContents.{FitsEdges, weight_fault, with_contents};
 ghost use Rattle.cs_graph.specs.Period.{AreDelaysOf, ArePinsOf, IsPeriod};
 ghost use Rattle.cs_base.specs.declared.contexts.Mode.TheVariants.{Any};
 ghost use Rattle.cs_graph.specs.declared.edge.Edge.{Edge as EdgeValue};
 ghost use Rattle.cs_graph.specs.declared.vertex.Vertex.{Vertex as VertexValue};
 
+use crate::builder::MOST_WEIGHT;
+use crate::contents::{Contents, are_wires_kept};
 use crate::delays::Delays;
 use crate::edge::Edge;
+use crate::error::BuildError;
 use crate::graph::Graph;
 use crate::lags::{are_legal_lags, are_weights, weight_of};
 use crate::memory::Memory;
 use crate::order::{OrderError, order_under};
 use crate::period::period_along;
 use crate::vertex::{Vertex, VertexKind};
-use cs_base::{EdgeId, MemId, Mode, Sequence, VertexId};
+use cs_base::{Counted, EdgeId, LimitFault, MemId, Mode, Sequence, VertexId};
 use std::alloc::{AllocError, Global};
 use std::marker::Model;
 
@@ -164,6 +169,37 @@ impl Machine {
             Err(OrderError::Loop(_)) => unreachable!(),
             Err(OrderError::NoMemory) => Err(AllocError),
         }
+    }
+
+    /// Whether there are contents for each edge, and none for just those without a register. It takes no memory.
+    pub fn fits(&self, contents: &Contents) -> bool
+        ensures { IsTrue result ↔ FitsEdges self.now contents.now }
+    {
+        let edges = self.graph.edges.as_slice();
+        let lists = contents.of.as_slice();
+        lists.len() == edges.len() && are_wires_kept(edges, lists)
+    }
+
+    /// The same vertices, edges and memories, with these contents in place of its own, and a register for each of
+    /// them: the edges without a register, and they alone, get none. `Limit` comes exactly for more registers than a
+    /// machine may have, and tells how many there would be.
+    pub fn with_contents(&self, alloc: Global, contents: Contents) -> Result<Machine, BuildError>
+        requires { FitsEdges self.now contents }
+        ensures ok { IfOk result (λ machine. machine ≡ with_contents contents self.now) }
+        ensures within { OnOk result (weight_fault contents ≡ None) }
+        ensures cause { IfErr result (TellsLimit (weight_fault contents)) }
+    {
+        let registers = contents.register_count();
+        if registers > MOST_WEIGHT {
+            return Err(BuildError::Limit(LimitFault {
+                what: Counted::Weight,
+                found: registers,
+                most: MOST_WEIGHT,
+            }));
+        }
+        let graph = self.graph.with_contents(alloc, contents)?;
+        let order = Vec::from_slice(alloc, self.order.as_slice())?;
+        Ok(Machine::from_parts(graph, Sequence::from_vec(order)))
     }
 
     /// Whether there is one delay for each vertex and for each pin. It takes no memory.

@@ -1,5 +1,5 @@
 // Vertices and what their pins read.
-ghost use Rattle.std.specs.Prelude.{◌≡◌, [], ◌∷◌, ◌++◌, length, OnOk, OnErr, IsTrue, ◌↔◌};
+ghost use Rattle.std.specs.Prelude.{◌≡◌, [], ◌∷◌, ◌++◌, length, IfOk, OnOk, OnErr, IsTrue, ◌↔◌};
 
 use cs_base::{EdgeId, MemId};
 use cs_cells::Kind;
@@ -86,6 +86,14 @@ impl Pins {
         self.feeds.as_slice()
     }
 
+    /// Another list of the same pins.
+    pub(crate) fn copy(&self, alloc: Global) -> Result<Self, AllocError>
+        ensures { IfOk result (λ pins. pins ≡ self.now) }
+    {
+        let feeds = SmallVec::from_slice(alloc, self.feeds.as_slice())?;
+        Ok(Pins { feeds })
+    }
+
     /// Puts a pin behind the others; a refusal leaves them unchanged.
     pub(crate) fn push(&mut self, feed: Feed) -> Result<(), AllocError>
         ensures ok { OnOk result (self.new ≡ self.old ++ feed ∷ []) }
@@ -101,4 +109,17 @@ impl Pins {
 pub struct Vertex {
     pub kind: VertexKind,
     pub pins: Pins,
+}
+
+impl Vertex {
+    /// Another vertex of the same kind and pins.
+    pub(crate) fn copy(&self, alloc: Global) -> Result<Self, AllocError>
+        ensures { IfOk result (λ vertex. vertex ≡ self.now) }
+    {
+        let pins = self.pins.copy(alloc)?;
+        Ok(Vertex {
+            kind: self.kind,
+            pins,
+        })
+    }
 }

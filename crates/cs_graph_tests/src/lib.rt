@@ -4,6 +4,8 @@
 #[cfg(test)]
 mod building;
 #[cfg(test)]
+mod contents;
+#[cfg(test)]
 mod cycles;
 #[cfg(test)]
 mod limits;

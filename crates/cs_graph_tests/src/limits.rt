@@ -4,7 +4,7 @@ use cs_base::{Counted, LimitFault};
 use cs_cells::Kind;
 use cs_graph::{BuildError, MachineBuilder, VertexKind};
 
-fn is_limit(refused: &Option<BuildError>, what: Counted, found: u64, most: u64) -> bool {
+pub fn is_limit(refused: &Option<BuildError>, what: Counted, found: u64, most: u64) -> bool {
     match refused {
         Some(BuildError::Limit(fault)) => *fault == LimitFault { what, found, most },
         _ => false,

@@ -2,12 +2,14 @@
 use crate::building::{Wire, machine};
 use cs_base::{EdgeId, MemId, Mode, Sequence, VertexId};
 use cs_cells::Kind;
-use cs_graph::{BuildError, Delays, Feed, Machine, MachineBuilder, Memory, VertexKind, are_within};
+use cs_graph::{
+    BuildError, Delays, Feed, Machine, MachineBuilder, Memory, Vertex, VertexKind, are_within,
+};
 use std::alloc::Global;
 use std::process::Abort;
 
 // Whether the edge of this number is this wire.
-fn is_edge(machine: &Machine, e: u32, wire: Wire<'_>) -> bool {
+pub fn is_edge(machine: &Machine, e: u32, wire: Wire<'_>) -> bool {
     if e >= machine.edge_count() {
         return false;
     }
@@ -276,7 +278,7 @@ fn with_two_ports(rt: &impl Abort, alloc: Global) -> MachineBuilder {
 }
 
 // Output 1 of the Read goes to the Write's last pin, an enable bit; the other pins are tied.
-fn memory_with_two_ports(rt: &impl Abort, alloc: Global) -> Machine {
+pub fn memory_with_two_ports(rt: &impl Abort, alloc: Global) -> Machine {
     let mut builder = with_two_ports(rt, alloc);
     let read = [(1, 0, true), (1, 1, false)];
     tie(rt, &mut builder, &read);
@@ -305,6 +307,16 @@ fn are_tied(pins: &[Feed], bits: &[bool]) -> bool {
     true
 }
 
+// Whether it is the Write, five of whose pins are tied.
+pub fn is_write_of_six_pins(write: &Vertex) -> bool {
+    let memory = MemId::new(0);
+    let pins = write.pins.as_slice();
+    write.kind == VertexKind::Write { memory, port: 0 }
+        && pins.len() == 6
+        && are_tied(pins, &[false, true, true, false, true])
+        && matches!(pins[5], Feed::Edge(edge) if edge.get() == 0)
+}
+
 #[test]
 fn ports_of_a_memory(rt: HostRuntime) {
     let machine = memory_with_two_ports(&rt, rt.alloc());
@@ -313,15 +325,11 @@ fn ports_of_a_memory(rt: HostRuntime) {
     let read = machine.vertex(VertexId::new(1));
     assert!(rt; read.kind == VertexKind::Read { memory, port: 0 });
     assert!(rt; read.pins.len() == 2 && are_tied(read.pins.as_slice(), &[true, false]));
-    let write = machine.vertex(VertexId::new(2));
-    assert!(rt; write.kind == VertexKind::Write { memory, port: 0 });
-    let bits = [false, true, true, false, true];
-    assert!(rt; write.pins.len() == 6 && are_tied(write.pins.as_slice(), &bits));
-    assert!(rt; matches!(write.pins.as_slice()[5], Feed::Edge(edge) if edge.get() == 0));
+    assert!(rt; is_write_of_six_pins(machine.vertex(VertexId::new(2))));
     assert!(rt; machine.edge(EdgeId::new(0)).output == 1);
 }
 
-fn is_memory_of_four_words(kept: &Memory) -> bool {
+pub fn is_memory_of_four_words(kept: &Memory) -> bool {
     kept.size == 3
         && kept.words == 4
         && kept.abits == 2

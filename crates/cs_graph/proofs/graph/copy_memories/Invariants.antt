@@ -1,0 +1,6 @@
+-- The first memories are copied.
+use Rattle.std.proofs.Common.{◌≡◌, take}
+use Rattle.cs_graph.proofs.graph.copy_memories.Given as goal
+
+abbrev pub invariant-loop-memory : goal.invariant-loop-memory
+invariant-loop-memory l = l.copies ≡ take l.memory-index l.memories
