@@ -1,7 +1,7 @@
 -- One more known bound.
-use Rattle.std.proofs.Common.{◌≡◌, Bool, true, false, IsTrue, map, if◌then◌else◌, subst, rules, ℕ, zero, suc, ◌+◌, ◌<◌, ◌≤◌, ◌^◌, ◌⊎◌, List, [], ◌∷◌, length, Option, Some, None, cond, get_or, set, inl, inr, refl, sym, ap, ◌∙◌, arith}
+use Rattle.std.proofs.Common.{◌≡◌, Bool, true, false, IsTrue, map, if◌then◌else◌, subst, rules, ℕ, zero, suc, ◌+◌, ◌≤◌, ◌^◌, ◌⊎◌, List, [], ◌∷◌, Option, Some, None, cond, set, inl, inr, refl, sym, ap, arith}
 use Rattle.std.specs.Prelude.{ℤ, pos, negsuc, ◌+ℤ◌, ◌-ℤ◌, ◌≤ℤ◌, is_none, slice_get, slice_set}
-use Rattle.std.specs.List.{count_by, sum_by}
+use Rattle.std.specs.List.{count_by}
 use Rattle.std.proofs.lemmas.Int.{ints}
 use Rattle.std.proofs.lemmas.List.Sums.{sum_by-set}
 use Rattle.std.proofs.lemmas.Option.{get_or_from_slice_get, slice_get_within}

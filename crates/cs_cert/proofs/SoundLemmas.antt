@@ -1,6 +1,6 @@
 -- Valid steps bound the lags of their ends: the lag of the one less that of the other is at most what the steps cost. So
 -- a valid cycle leaves no legal lags of a period within the bound.
-use Rattle.std.proofs.Common.{◌≡◌, ℕ, ◌+◌, ◌<◌, ◌≤◌, ◌⊎◌, List, [], ◌∷◌, Some, inl, inr, refl, sym, ◌∙◌, ap, subst, arith}
+use Rattle.std.proofs.Common.{◌≡◌, ℕ, ◌<◌, ◌⊎◌, List, [], ◌∷◌, Some, inl, inr, sym, ◌∙◌, ap, arith}
 use Rattle.std.specs.Prelude.{ℤ, pos, ◌+ℤ◌, ◌-ℤ◌, ◌≤ℤ◌, ◌<ℤ◌, length, slice_get}
 use Rattle.std.proofs.lemmas.Int.{ints, by_lt_z}
 use Rattle.cs_base.specs.declared.contexts.Mode.{Mode}
@@ -8,8 +8,8 @@ use Rattle.cs_base.specs.declared.contexts.Mode.TheVariants.{Forward}
 use Rattle.cs_graph.specs.declared.edge.Edge.{Edge}
 use Rattle.cs_graph.specs.declared.graph.Graph.{Graph}
 use Rattle.cs_graph.specs.declared.delays.Delays.{Delays}
-use Rattle.cs_graph.specs.Lags.{IsLegal, lag_at, weight_under}
-use Rattle.cs_graph.specs.Period.{HasNoRegister, IsPath, IsPeriodWithin, edge_weight, edge_weight_under, path_delay, path_weight, path_weight_under}
+use Rattle.cs_graph.specs.Lags.{IsLegal, lag_at}
+use Rattle.cs_graph.specs.Period.{HasNoRegister, IsPath, IsPeriodWithin, edge_weight_under, path_delay, path_weight, path_weight_under}
 use Rattle.cs_graph.proofs.PathWeights.{path_registers}
 use Rattle.cs_cert.specs.declared.step.Step.{Step}
 use Rattle.cs_cert.specs.declared.step.Step.TheVariants.{EdgeStep, PathStep, PinStep}

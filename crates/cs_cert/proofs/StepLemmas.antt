@@ -1,19 +1,17 @@
 -- Steps over legal lags: each bounds the lags of its ends, so a valid cycle leaves no legal lags of a period within the
 -- bound.
-use Rattle.std.proofs.Common.{add-one, drop, get_or, ◌≡◌, ℕ, suc, ◌+◌, ◌<◌, ◌≤◌, Bool, true, List, [], ◌∷◌, length, Some, inl, inr, refl, sym, ◌∙◌, ap, subst, arith, ◌↔◌}
+use Rattle.std.proofs.Common.{add-one, drop, get_or, ◌≡◌, ℕ, suc, ◌+◌, ◌<◌, ◌≤◌, Bool, List, [], ◌∷◌, length, Some, refl, sym, ◌∙◌, ap, subst, arith, ◌↔◌}
 use Rattle.std.specs.Prelude.{ℤ, pos, ◌+ℤ◌, ◌-ℤ◌, ◌≤ℤ◌, ◌<ℤ◌, IsTrue, slice_get}
-use Rattle.std.proofs.lemmas.Int.{ints, by_lt_z}
+use Rattle.std.proofs.lemmas.Int.{ints}
 use Rattle.std.proofs.Math.Seq.{drop-cons}
 use Rattle.cs_graph.proofs.LagLemmas.{got}
 use Rattle.std.proofs.lemmas.Option.{slice_get_within}
 use Rattle.cs_base.specs.declared.contexts.Mode.{Mode}
-use Rattle.cs_graph.specs.declared.edge.Edge.{Edge}
 use Rattle.cs_graph.specs.declared.vertex.Vertex.{Vertex}
 use Rattle.cs_graph.specs.declared.graph.Graph.{Graph}
 use Rattle.cs_graph.specs.declared.delays.Delays.{Delays}
 use Rattle.cs_graph.specs.Kinds.{is_pinned}
-use Rattle.cs_graph.specs.Lags.{IsLegal, lag_at, weight_under}
-use Rattle.cs_graph.specs.Period.{HasNoRegister, IsPath, IsPeriodWithin, edge_weight, path_delay, path_weight}
+use Rattle.cs_graph.specs.Period.{edge_weight, path_weight}
 use Rattle.cs_cert.specs.declared.step.Step.{Step}
 use Rattle.cs_cert.specs.declared.step.Step.TheVariants.{EdgeStep, PathStep, PinStep}
 use Rattle.cs_cert.specs.Steps.{Goes, IsPinned, IsValid, IsValidCycle, Lead, cost, total_cost}

@@ -1,10 +1,10 @@
 -- The delay table that a JSON value is, or the first place that is refused. The walk goes by byte order of keys.
 use Rattle.std.specs.Prelude.{ℕ, ◌-◌, ◌^◌, min, List, Bool, false, ◌==◌, ◌&&◌, ◌||◌, if◌then◌else◌, Option, Some, None, Ok, Err, is_some, option_map, option_and_then, unwrap_or, codes}
 use Rattle.serde_json.specs.Data.{Data, Members}
-use Rattle.serde_json.specs.Find.{get_member, as_number, as_object, as_u64}
+use Rattle.serde_json.specs.Find.{get_member, as_object}
 use Rattle.cs_json.specs.declared.document.Place.{Place}
 use Rattle.cs_json.specs.Shape.{json_of}
-use Rattle.cs_json.specs.Walk.{Read, ◌>>=◌, found, entries, each_member, members, required, under, to_key}
+use Rattle.cs_json.specs.Walk.{Read, ◌>>=◌, found, entries, each_member, members, required, under, to_key, whole_number}
 use Rattle.cs_delay.specs.declared.entry.DelayEntry.{DelayEntry}
 use Rattle.cs_delay.specs.declared.entry.PinDelay.{PinDelay}
 use Rattle.cs_delay.specs.declared.entry.PinDelays.{PinDelays}
@@ -12,10 +12,6 @@ use Rattle.cs_delay.specs.declared.entry.PinDelays.TheVariants.{One, Pins}
 use Rattle.cs_delay.specs.declared.table.DelayTable.{DelayTable}
 use Rattle.cs_delay.specs.declared.written.Written.{Written}
 use Rattle.cs_delay.specs.Tables.{too_large}
-
--- a number without fraction and exponent, from 0 to 2^64 - 1
-abbrev pub whole_number : Data → Option ℕ
-whole_number d = option_and_then as_u64 (as_number d)
 
 -- a number past every u32 is read as the greatest of them, which is too large as well
 abbrev pub capped : ℕ → ℕ

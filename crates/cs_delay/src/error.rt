@@ -34,21 +34,3 @@ impl From<AllocError> for DelayError {
         DelayError::NoMemory
     }
 }
-
-// Why a value was not read; the path leads from that value to the first place that is refused.
-#[derive(Drop)]
-pub(crate) enum ReadError {
-    NoMemory,
-    Refused(Text),
-}
-
-impl From<AllocError> for ReadError {
-    ghost use Rattle.std.specs.Prelude.{◌≡◌};
-    ghost use Rattle.cs_delay.specs.declared.error.ReadError.TheVariants.{NoMemory};
-
-    ghost from_gives = { λ _ e. e ≡ NoMemory };
-
-    fn from(_: AllocError) -> Self {
-        ReadError::NoMemory
-    }
-}

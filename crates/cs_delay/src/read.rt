@@ -1,8 +1,7 @@
 // Bytes to a delay table.
-ghost use Rattle.std.specs.Prelude.{◌≡◌, ◌⊎◌, IfOk, IsErrOf, IsOkAnd, List, ℕ, MatchResult, Some, None};
+ghost use Rattle.std.specs.Prelude.{◌≡◌, ◌⊎◌, IfOk, IsErrOf, IsOkAnd, List, ℕ};
 ghost use Rattle.serde_json.specs.View.{view};
 ghost use Rattle.cs_json.specs.declared.document.Place.{Place as PlaceValue};
-ghost use Rattle.cs_json.specs.Shape.{json_of};
 ghost use Rattle.cs_json.proofs.Ordered.{IsOrdered};
 ghost use Rattle.cs_delay.specs.Gives.{Answers};
 ghost use Rattle.cs_delay.specs.Shape.{written, bounded, reading_of, table_of, parts, Says, RefusedAt, Exceeds, NoJson};
@@ -10,29 +9,14 @@ ghost use Rattle.cs_delay.specs.Tables.{HasPinsInOrder, HasTypesInOrder, too_lar
 ghost use Rattle.cs_delay.specs.declared.written.Written.{Written as WrittenValue};
 
 use crate::bound::too_large;
-use crate::error::{DelayError, ReadError};
+use crate::error::DelayError;
 use crate::shape::written;
 use crate::table::DelayTable;
 use crate::written::Written;
 use cs_base::Text;
-use cs_json::Place;
+use cs_json::{Place, ReadError, json_value};
 use serde_json::Value;
 use std::alloc::Global;
-
-fn parsed(alloc: Global, bytes: &[u8]) -> Result<Value, DelayError>
-    ensures { MatchResult result
-        (λ v. json_of bytes.now ≡ Some (view v))
-        (λ e. (e ≡ DelayError.NoMemory) ⊎ ((e ≡ DelayError.NotJson) × (json_of bytes.now ≡ None))) }
-{
-    match Value::from_slice(alloc, bytes) {
-        Ok(value) => Ok(value),
-        Err(error) => if error.is_memory() {
-            Err(DelayError::NoMemory)
-        } else {
-            Err(DelayError::NotJson)
-        },
-    }
-}
 
 // The table, where no delay is too large.
 fn bounded(alloc: Global, table: Written) -> Result<DelayTable, DelayError>
@@ -66,7 +50,9 @@ fn table(alloc: Global, value: &Value) -> Result<DelayTable, DelayError>
 fn answer(alloc: Global, bytes: &[u8]) -> Result<DelayTable, DelayError>
     ensures { Answers result (table_of bytes.now) }
 {
-    let value = parsed(alloc, bytes)?;
+    let Some(value) = json_value(alloc, bytes)? else {
+        return Err(DelayError::NotJson);
+    };
     table(alloc, &value)
 }
 

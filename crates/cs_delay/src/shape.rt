@@ -2,15 +2,15 @@
 ghost use Rattle.std.specs.Prelude.{◌≡◌, codes};
 ghost use Rattle.serde_json.specs.View.{view, members_view};
 ghost use Rattle.cs_json.specs.Walk.{each_member, entries, required as required_at};
-ghost use Rattle.cs_delay.specs.Gives.{Gives};
+ghost use Rattle.cs_json.specs.Gives.{Gives};
 ghost use Rattle.cs_delay.specs.Shape.{capped, delay, pin, one, by_pin, delays, entry, types, fallback, known_version, version, is_second_version, written};
 
 use crate::entry::{DelayEntry, PinDelay, PinDelays};
-use crate::error::ReadError;
-use crate::members::{Members, member, object, required};
-use crate::places::{at_key, refused_here};
 use crate::written::Written;
 use cs_base::{Sequence, Text};
+use cs_json::ReadError;
+use cs_json::members::{Members, member, object, required};
+use cs_json::places::{at_key, refused_here};
 use serde_json::Value;
 use std::alloc::Global;
 

@@ -20,7 +20,7 @@ members_within f n each [] = omega arith
 members_within f n each (x ∷ xs) =
     let first = each x in let rest = members_within f n each xs in omega (arith, first, rest)
 
-items_within : {A : Type 0} (f : A → Data) (n : ℕ) → ((a : A) → depth (f a) ≤ n) → (xs : List A)
+pub items_within : {A : Type 0} (f : A → Data) (n : ℕ) → ((a : A) → depth (f a) ≤ n) → (xs : List A)
     → items_depth (items_of (map f xs)) ≤ n
 items_within f n each [] = omega arith
 items_within f n each (x ∷ xs) =

@@ -15,7 +15,7 @@ use Rattle.cs_json.specs.declared.document.Datum.{Datum}
 use Rattle.cs_json.specs.declared.document.Datum.TheVariants.{Digits, Number}
 use Rattle.cs_json.specs.Printed.{Member, members_from, signal_data, signals_data, datum_data, entry_member, port_member, net_member, wire_of, wire_member, side_member, cell_member, module_member, data_of}
 
-neither : (a b : Bool) → a ≡ false → b ≡ false → (a || b) ≡ false
+pub neither : (a b : Bool) → a ≡ false → b ≡ false → (a || b) ≡ false
 neither a b x y = rw (x, y) refl
 
 members_none : {A : Type 0} (f : A → Member) → ((a : A) → has_float (f a).1 ≡ false) → (xs : List A)
@@ -25,7 +25,7 @@ members_none f each (x ∷ xs) =
     neither (has_float (f x).1) (members_have_float (members_from (map f xs))) (each x)
     (members_none f each xs)
 
-items_none : {A : Type 0} (f : A → Data) → ((a : A) → has_float (f a) ≡ false) → (xs : List A)
+pub items_none : {A : Type 0} (f : A → Data) → ((a : A) → has_float (f a) ≡ false) → (xs : List A)
     → items_have_float (items_of (map f xs)) ≡ false
 items_none f each [] = refl
 items_none f each (x ∷ xs) =

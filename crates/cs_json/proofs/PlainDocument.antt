@@ -38,7 +38,7 @@ members_plain f P each [] all order = tt
 members_plain f P each (x ∷ xs) all order =
     (before_members f (f x).0 xs order.0, each x all.0, members_plain f P each xs all.1 order.1)
 
-items_plain : {A : Type 0} (f : A → Data) (P : A → Type 0) → ((a : A) → P a → IsPlain (f a))
+pub items_plain : {A : Type 0} (f : A → Data) (P : A → Type 0) → ((a : A) → P a → IsPlain (f a))
     → (xs : List A) → AllByRecursion P xs → ArePlain (items_of (map f xs))
 items_plain f P each [] all = tt
 items_plain f P each (x ∷ xs) all = (each x all.0, items_plain f P each xs all.1)
@@ -62,7 +62,7 @@ signals_plain only_bits bits h =
     items_plain signal_data (λ s. IsTrue (is_readable_signal only_bits s)) (signal_plain only_bits)
     bits h
 
-below_by_test : (n m : ℕ) → IsTrue (nat_lt n m) → n < m
+pub below_by_test : (n m : ℕ) → IsTrue (nat_lt n m) → n < m
 below_by_test n m h = grind (arith, nat_tests)
 
 datum_plain : (d : Datum) → IsTrue (is_readable_datum d) → IsPlain (datum_data d)

@@ -28,22 +28,22 @@ use Rattle.serde_json.specs.View.{items_of}
 use Rattle.cs_json.specs.Printed.{Member, members_from, signal_data, signals_data, datum_data, entry_member, port_member, net_member, wire_of, wire_member, side_member, cell_member, module_member, data_of}
 use Rattle.cs_json.specs.Readable.{is_readable_signal, AreReadable, AreEntries, is_readable_datum, is_input, IsPort, IsNet, IsCell, IsModule, IsReadable, AreInOrder, is_below}
 
-entries-members_from : (es : List Member) → entries (members_from es) ≡ es
+pub entries-members_from : (es : List Member) → entries (members_from es) ≡ es
 entries-members_from [] = refl
 entries-members_from (e ∷ es) = ap (λ rest. e ∷ rest) (entries-members_from es)
 
-elements-items_of : (ds : List Data) → elements (items_of ds) ≡ ds
+pub elements-items_of : (ds : List Data) → elements (items_of ds) ≡ ds
 elements-items_of [] = refl
 elements-items_of (d ∷ ds) = ap (λ rest. d ∷ rest) (elements-items_of ds)
 
 -- where each thing is read again, so is the list
-items_back : {A : Type 0} (f : Data → Read A) (g : A → Data) (P : A → Type 0)
+pub items_back : {A : Type 0} (f : Data → Read A) (g : A → Data) (P : A → Type 0)
     → ((a : A) → P a → f (g a) ≡ Ok a) → (xs : List A) (i : ℕ) → AllByRecursion P xs
     → each_item f i (map g xs) ≡ Ok xs
 items_back f g P back [] i h = refl
 items_back f g P back (x ∷ xs) i h = rw (back x h.0, items_back f g P back xs (i + 1) h.1) refl
 
-members_back : {A : Type 0} (f : List ℕ → Data → Read A) (g : A → Member) (P : A → Type 0)
+pub members_back : {A : Type 0} (f : List ℕ → Data → Read A) (g : A → Member) (P : A → Type 0)
     → ((a : A) → P a → f (g a).0 (g a).1 ≡ Ok a) → (xs : List A) → AllByRecursion P xs
     → each_member f (entries (members_from (map g xs))) ≡ Ok xs
 members_back f g P back [] h = refl

@@ -1,8 +1,8 @@
 -- Going through a JSON value from place to place. A step that may refuse answers the first refused
 -- place.
-use Rattle.std.specs.Prelude.{ℕ, ◌+◌, List, [], ◌∷◌, ◌++◌, ◌==◌, if◌then◌else◌, Option, Some, None, option_map, Result, Ok, Err, decimal, flat_map, encode_utf8}
+use Rattle.std.specs.Prelude.{ℕ, ◌+◌, List, [], ◌∷◌, ◌++◌, ◌==◌, if◌then◌else◌, Option, Some, None, option_map, option_and_then, Result, Ok, Err, decimal, flat_map, encode_utf8}
 use Rattle.serde_json.specs.Data.{Data, Items, no_items, item, Members, no_members, member}
-use Rattle.serde_json.specs.Find.{get_member, as_object, as_array, as_str}
+use Rattle.serde_json.specs.Find.{get_member, as_object, as_array, as_number, as_str, as_u64}
 
 -- the text of a path: each key or list place that leads there, behind a `/`
 abbrev pub Path : Type 0
@@ -69,6 +69,10 @@ each_item f i (d ∷ ds) =
 abbrev pub found : {A : Type 0} → Option A → Read A
 found None = Err []
 found (Some a) = Ok a
+
+-- a number without fraction and exponent, from 0 to 2^64 - 1
+abbrev pub whole_number : Data → Option ℕ
+whole_number d = option_and_then as_u64 (as_number d)
 
 -- the value has to be an object
 abbrev pub members : Data → Read Members

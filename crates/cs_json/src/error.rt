@@ -20,7 +20,7 @@ pub enum DocError {
 
 // Why a value was not read; the path leads from that value to the first place that is refused.
 #[derive(Drop)]
-pub(crate) enum ReadError {
+pub enum ReadError {
     NoMemory,
     Refused(Text),
 }

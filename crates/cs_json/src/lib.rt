@@ -7,9 +7,9 @@ mod entries;
 mod error;
 mod keyed;
 mod laws;
-mod members;
+pub mod members;
 mod modules;
-mod places;
+pub mod places;
 mod ports;
 mod print;
 mod printing;
@@ -19,7 +19,7 @@ mod signals;
 pub use document::{
     CellDecl, Datum, Direction, Document, Entry, Module, NetDecl, PinDecl, Place, PortDecl,
 };
-pub use error::DocError;
+pub use error::{DocError, ReadError};
 pub use laws::reads_back;
 pub use print::print_document;
-pub use read::read_document;
+pub use read::{json_value, read_document};

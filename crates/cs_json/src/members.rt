@@ -12,10 +12,10 @@ use serde_json::{Map, Value};
 use std::alloc::Global;
 
 /// The members of an object, in byte order of their keys.
-pub(crate) type Members = Map<String, Value>;
+pub type Members = Map<String, Value>;
 
 /// The member at a key.
-pub(crate) fn member<'v>(map: &'v Members, key: &str) -> Option<&'v Value>
+pub fn member<'v>(map: &'v Members, key: &str) -> Option<&'v Value>
     ensures { option_map (λ v. view v.now) result
         ≡ get_member key.now (members_view map.now.entries) }
 {
@@ -23,7 +23,7 @@ pub(crate) fn member<'v>(map: &'v Members, key: &str) -> Option<&'v Value>
 }
 
 /// Whether a member is this text.
-pub(crate) fn says(map: &Members, key: &str, word: &str) -> bool
+pub fn says(map: &Members, key: &str, word: &str) -> bool
     ensures { result ≡ says word.now key.now (members_view map.now.entries) }
 {
     match member(map, key) {
@@ -33,7 +33,7 @@ pub(crate) fn says(map: &Members, key: &str, word: &str) -> bool
 }
 
 /// The members of a value, which has to be an object.
-pub(crate) fn object(alloc: Global, value: &Value) -> Result<&Members, ReadError>
+pub fn object(alloc: Global, value: &Value) -> Result<&Members, ReadError>
     ensures { MatchResult result
         (λ m. members (view value.now) ≡ Ok (members_view m.now.entries))
         (λ e. Fails e (members (view value.now))) }
@@ -45,11 +45,7 @@ pub(crate) fn object(alloc: Global, value: &Value) -> Result<&Members, ReadError
 }
 
 /// The member at a key, which has to be there: where it is missing, its own place is refused.
-pub(crate) fn required<'v>(
-    alloc: Global,
-    map: &'v Members,
-    key: &str,
-) -> Result<&'v Value, ReadError>
+pub fn required<'v>(alloc: Global, map: &'v Members, key: &str) -> Result<&'v Value, ReadError>
     ensures { MatchResult result
         (λ v. get_member key.now (members_view map.now.entries) ≡ Some (view v.now))
         (λ e. Fails e (under (to_key key.now)
@@ -62,7 +58,7 @@ pub(crate) fn required<'v>(
 }
 
 /// The object at a key, if it is there; the member there has to be an object.
-pub(crate) fn optional<'v>(
+pub fn optional<'v>(
     alloc: Global,
     map: &'v Members,
     key: &str,

@@ -1,6 +1,6 @@
 // Paths to a refused place (RFC 6901: `~0` stands for `~`, and `~1` for `/`).
 ghost use Rattle.std.specs.Prelude.{◌≡◌, ◌++◌, OnOk, IfOk, string_bytes};
-ghost use Rattle.cs_json.specs.Walk.{escaped_char, to_key, Read, under};
+ghost use Rattle.cs_json.specs.Walk.{escaped_char, to_item, to_key, Read, under};
 ghost use Rattle.cs_json.specs.Gives.{Gives, RefusesHere, RefusesAt};
 
 use crate::error::ReadError;
@@ -8,7 +8,7 @@ use cs_base::Text;
 use std::alloc::{AllocError, Global};
 
 /// The value itself is refused.
-pub(crate) fn refused_here(alloc: Global) -> ReadError
+pub fn refused_here(alloc: Global) -> ReadError
     ensures { RefusesHere result }
 {
     ReadError::Refused(Text::from_string(String::new(alloc)))
@@ -43,7 +43,7 @@ fn joined(alloc: Global, key: &str, rest: &Text) -> Result<Text, AllocError>
 }
 
 /// The member at a key is refused.
-pub(crate) fn refused_at(alloc: Global, key: &str) -> ReadError
+pub fn refused_at(alloc: Global, key: &str) -> ReadError
     ensures { RefusesAt (to_key key.now) result }
 {
     match step_to(alloc, key) {
@@ -53,17 +53,35 @@ pub(crate) fn refused_at(alloc: Global, key: &str) -> ReadError
 }
 
 /// What was read of the member at a key, told from the object on.
-pub(crate) fn at_key<T>(
-    alloc: Global,
-    key: &str,
-    read: Result<T, ReadError>,
-) -> Result<T, ReadError>
+pub fn at_key<T>(alloc: Global, key: &str, read: Result<T, ReadError>) -> Result<T, ReadError>
     ensures { (value : Read T) → Gives read value → Gives result (under (to_key key.now) value) }
 {
     match read {
         Ok(found) => Ok(found),
         Err(ReadError::NoMemory) => Err(ReadError::NoMemory),
         Err(ReadError::Refused(rest)) => match joined(alloc, key, &rest) {
+            Ok(path) => Err(ReadError::Refused(path)),
+            Err(_) => Err(ReadError::NoMemory),
+        },
+    }
+}
+
+fn joined_item(alloc: Global, i: usize, rest: &Text) -> Result<Text, AllocError>
+    ensures { IfOk result (λ path. path ≡ to_item i ++ rest.now) }
+{
+    let mut path = format!(in alloc; "/{i}")?;
+    path.push_str(rest.as_str())?;
+    Ok(Text::from_string(path))
+}
+
+/// What was read of the item at a place, told from the list on.
+pub fn at_item<T>(alloc: Global, i: usize, read: Result<T, ReadError>) -> Result<T, ReadError>
+    ensures { (value : Read T) → Gives read value → Gives result (under (to_item i) value) }
+{
+    match read {
+        Ok(found) => Ok(found),
+        Err(ReadError::NoMemory) => Err(ReadError::NoMemory),
+        Err(ReadError::Refused(rest)) => match joined_item(alloc, i, &rest) {
             Ok(path) => Err(ReadError::Refused(path)),
             Err(_) => Err(ReadError::NoMemory),
         },

@@ -1,5 +1,5 @@
 // Bytes to a document.
-ghost use Rattle.std.specs.Prelude.{◌≡◌, ◌⊎◌, IfOk, IsErrOf, MatchResult, Ok, Some, None};
+ghost use Rattle.std.specs.Prelude.{◌≡◌, ◌⊎◌, IfOk, IsErrOf, Ok, option_map};
 ghost use Rattle.serde_json.specs.View.{view};
 ghost use Rattle.cs_json.specs.declared.document.Document.{Document};
 ghost use Rattle.cs_json.specs.declared.document.Place.{Place};
@@ -11,19 +11,18 @@ use crate::document::{Document, Place};
 use crate::error::{DocError, ReadError};
 use crate::modules::root;
 use serde_json::Value;
-use std::alloc::Global;
+use std::alloc::{AllocError, Global};
 
-fn parsed(alloc: Global, bytes: &[u8]) -> Result<Value, DocError>
-    ensures { MatchResult result
-        (λ v. json_of bytes.now ≡ Some (view v))
-        (λ e. (e ≡ DocError.NoMemory) ⊎ ((e ≡ DocError.NotJson) × (json_of bytes.now ≡ None))) }
+/// The JSON value of the bytes of a file, as `serde_json` reads it, or None exactly where it gives no reading.
+pub fn json_value(alloc: Global, bytes: &[u8]) -> Result<Option<Value>, AllocError>
+    ensures { IfOk result (λ value. option_map view value ≡ json_of bytes.now) }
 {
     match Value::from_slice(alloc, bytes) {
-        Ok(value) => Ok(value),
+        Ok(value) => Ok(Some(value)),
         Err(error) => if error.is_memory() {
-            Err(DocError::NoMemory)
+            Err(AllocError)
         } else {
-            Err(DocError::NotJson)
+            Ok(None)
         },
     }
 }
@@ -41,8 +40,11 @@ fn shaped(alloc: Global, value: &Value) -> Result<Document, DocError>
 fn answer(alloc: Global, bytes: &[u8]) -> Result<Document, DocError>
     ensures { Answers result (document bytes.now) }
 {
-    let value = parsed(alloc, bytes)?;
-    shaped(alloc, &value)
+    match json_value(alloc, bytes) {
+        Ok(Some(value)) => shaped(alloc, &value),
+        Ok(None) => Err(DocError::NotJson),
+        Err(AllocError) => Err(DocError::NoMemory),
+    }
 }
 
 /// Reads a document from the bytes of a file of Yosys JSON.

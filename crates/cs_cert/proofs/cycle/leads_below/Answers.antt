@@ -1,11 +1,11 @@
-use Rattle.std.proofs.Common.{◌≡◌, ℕ, suc, ◌+◌, ◌<◌, ◌≤◌, ◌^◌, ◌↔◌, List, ◌∷◌, length, drop, get_or, add-one, sym, ap, ◌∙◌, subst, arith, rules, to_z, of_z}
+use Rattle.std.proofs.Common.{◌≡◌, ◌+◌, ◌≤◌, ◌^◌, ◌↔◌, List, ◌∷◌, length, drop, ap, ◌∙◌, subst, arith, rules, to_z, of_z}
 use Rattle.std.specs.Int.{w128}
-use Rattle.std.specs.Prelude.{ℤ, pos, ◌+ℤ◌, ◌≤ℤ◌, ◌<ℤ◌, IsTrue, false}
+use Rattle.std.specs.Prelude.{ℤ, pos, ◌+ℤ◌, ◌<ℤ◌}
 use Rattle.std.proofs.lemmas.Int.{ints, to_z-of_z}
 use Rattle.std.proofs.lemmas.List.{length-drop}
 use Rattle.cs_cert.specs.declared.step.Step.{Step}
 use Rattle.cs_cert.specs.Steps.{Lead, cost, total_cost}
-use Rattle.cs_cert.proofs.StepLemmas.{begins_elsewhere, leads_nowhere, leads_on, next_step, summed, too_dear, total_low}
+use Rattle.cs_cert.proofs.StepLemmas.{leads_on, next_step, summed, too_dear, total_low}
 use Rattle.cs_cert.proofs.cycle.leads_below.Goals as goal
 
 pub returns-then-costs-gt-HIGHEST : goal.returns-then-costs-gt-HIGHEST

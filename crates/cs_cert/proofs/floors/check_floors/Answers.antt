@@ -1,6 +1,6 @@
-use Rattle.std.proofs.Common.{◌≡◌, sym, subst}
+use Rattle.std.proofs.Common.{sym, subst}
 use Rattle.std.proofs.lemmas.Bool.{OnTrue_at, OnTrue_from}
-use Rattle.cs_cert.specs.Floors.{AreBoundBy, AreNear, LowerBounds, pinned_bounds}
+use Rattle.cs_cert.specs.Floors.{AreBoundBy, AreNear, LowerBounds}
 use Rattle.cs_cert.proofs.FloorLemmas.{pinned_near}
 use Rattle.cs_cert.proofs.BoundLemmas.{bounds_hold}
 use Rattle.cs_cert.proofs.floors.check_floors.Goals as goal

@@ -1,10 +1,8 @@
-use Rattle.std.proofs.Common.{◌≡◌, ℕ, ◌+◌, ◌^◌, List, Option, Some, None, ap, ap₂, ◌∙◌, sym, subst, set, arith, rules, to_z, of_z}
+use Rattle.std.proofs.Common.{◌≡◌, Some, None, ap₂, ◌∙◌, arith, rules, to_z, of_z}
 use Rattle.std.specs.Int.{w128}
-use Rattle.std.specs.List.{count_by}
-use Rattle.std.specs.Prelude.{ℤ, ◌-ℤ◌, is_none, slice_get}
+use Rattle.std.specs.Prelude.{ℤ, ◌-ℤ◌, slice_get}
 use Rattle.std.proofs.lemmas.Int.{to_z-of_z}
 use Rattle.std.proofs.lemmas.Option.{slice_get_within}
-use Rattle.cs_cert.specs.Floors.{AreNear, LowerBounds}
 use Rattle.cs_cert.proofs.FloorLemmas.{fewer_open, near_after}
 use Rattle.cs_cert.proofs.floors.take_step.Goals as goal
 

@@ -1,10 +1,10 @@
-use Rattle.std.proofs.Common.{◌≡◌, ℕ, suc, ◌+◌, ◌*◌, ◌<◌, ◌^◌, ◌↔◌, List, ◌∷◌, length, drop, get_or, add-one, sym, ap, ◌∙◌, subst, rules, arith}
+use Rattle.std.proofs.Common.{◌≡◌, ℕ, ◌+◌, ◌*◌, ◌^◌, ◌↔◌, List, ◌∷◌, drop, sym, subst, rules, arith}
 use Rattle.std.specs.List.{count_by}
 use Rattle.std.specs.Prelude.{is_none}
 use Rattle.cs_cert.specs.declared.step.Step.{Step}
-use Rattle.cs_cert.specs.Floors.{AreBoundBy, AreNear, IsBoundBy, LowerBounds}
+use Rattle.cs_cert.specs.Floors.{AreBoundBy, AreNear, IsBoundBy}
 use Rattle.cs_cert.proofs.FloorLemmas.{near_wider}
-use Rattle.cs_cert.proofs.BoundLemmas.{bounds_nowhere, bounds_on}
+use Rattle.cs_cert.proofs.BoundLemmas.{bounds_on}
 use Rattle.cs_cert.proofs.StepLemmas.{next_step}
 use Rattle.cs_cert.proofs.floors.take_steps.Goals as goal
 

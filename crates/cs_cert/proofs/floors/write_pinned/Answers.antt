@@ -1,4 +1,4 @@
-use Rattle.std.proofs.Common.{◌≡◌, ◌<◌, ◌∙◌, ap, sym, length, slice_get, arith, Some}
+use Rattle.std.proofs.Common.{◌≡◌, ◌∙◌, ap, sym, slice_get, arith, Some}
 use Rattle.std.proofs.lemmas.Option.{slice_get_within}
 use Rattle.cs_cert.specs.Floors.{pinned_bounds}
 use Rattle.cs_cert.proofs.BoundLemmas.{next_written}

@@ -1,4 +1,4 @@
-use Rattle.std.proofs.Common.{◌≡◌, ℕ, take, length}
+use Rattle.std.proofs.Common.{◌≡◌, take}
 use Rattle.cs_cert.specs.Floors.{pinned_bounds}
 use Rattle.cs_cert.proofs.floors.write_pinned.Given as goal
 

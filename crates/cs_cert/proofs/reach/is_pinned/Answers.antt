@@ -1,5 +1,4 @@
-use Rattle.std.proofs.Common.{◌≡◌, ◌<◌, Bool, false, IsTrue, arith, rules}
-use Rattle.cs_cert.specs.Steps.{IsPinned}
+use Rattle.std.proofs.Common.{rules}
 use Rattle.cs_cert.proofs.StepLemmas.{not_pinned_past, pinned_by}
 use Rattle.cs_cert.proofs.reach.is_pinned.Goals as goal
 
