@@ -23,9 +23,9 @@ fn answer(rt: &impl Abort, alloc: Global, net: &Netlist, rows: &str) -> Vec<u8> 
 }
 
 // Whether the netlist of a document answers these rows with that response.
-fn is_answer(rt: &HostRuntime, document: &str, rows: &str, response: &str) -> bool {
-    let net = netlist(rt, rt.alloc(), document);
-    answer(rt, rt.alloc(), &net, rows).as_slice() == response.as_bytes()
+fn is_answer(rt: &impl Abort, alloc: Global, document: &str, rows: &str, response: &str) -> bool {
+    let net = netlist(rt, alloc, document);
+    answer(rt, alloc, &net, rows).as_slice() == response.as_bytes()
 }
 
 // The rows of the clocked read come from an independent simulator.
@@ -44,6 +44,9 @@ fn to_rows(rt: HostRuntime) {
         (STICKY, "", ""),
         (STICKY, "1\n0\n", "0100\n1100\n"),
     ] {
-        assert!(rt; is_answer(&rt, document, rows, response), "{response}");
+        assert!(rt;
+            is_answer(&rt, rt.alloc(), document, rows, response),
+            "{response}"
+        );
     }
 }

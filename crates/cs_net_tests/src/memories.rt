@@ -3,6 +3,7 @@ use crate::documents::MEMORY;
 use crate::lines::{netlist, refusal_of};
 use cs_net::Netlist;
 use std::alloc::{AllocError, Global};
+use std::process::Abort;
 use std::test::Fail;
 
 // A memory cell: its size, its address bits, the width of its words, and how many unclocked reads it has.
@@ -92,8 +93,8 @@ fn limits(rt: HostRuntime) -> Result<(), Fail> {
 }
 
 // Whether a word of the first cell of such a document's netlist starts with these bits.
-fn is_start(rt: &HostRuntime, document: &str, word: u32, bits: &str) -> bool {
-    let net = netlist(rt, rt.alloc(), document);
+fn is_start(rt: &impl Abort, alloc: Global, document: &str, word: u32, bits: &str) -> bool {
+    let net = netlist(rt, alloc, document);
     starts_with(&net, word, bits)
 }
 
@@ -101,6 +102,7 @@ fn is_start(rt: &HostRuntime, document: &str, word: u32, bits: &str) -> bool {
 // complement.
 #[test]
 fn starts(rt: HostRuntime) -> Result<(), Fail> {
+    let alloc = rt.alloc();
     let sizes = Sizes {
         size: 1,
         address: 0,
@@ -113,11 +115,11 @@ fn starts(rt: HostRuntime) -> Result<(), Fail> {
         ("0", "000000000000000000000000000000000"),
         ("-2", "011111111111111111111111111111110"),
     ] {
-        let document = document_of(rt.alloc(), sizes, start)?;
-        assert!(rt; is_start(&rt, document.as_str(), 0, bits), "{start}");
+        let document = document_of(alloc, sizes, start)?;
+        assert!(rt; is_start(&rt, alloc, document.as_str(), 0, bits), "{start}");
     }
     for (word, bits) in [(0, "00"), (1, "01"), (2, "00"), (3, "00")] {
-        assert!(rt; is_start(&rt, MEMORY, word, bits), "word {word}");
+        assert!(rt; is_start(&rt, alloc, MEMORY, word, bits), "word {word}");
     }
     Ok(())
 }

@@ -6,7 +6,7 @@ use cs_json::Document;
 use cs_multiply::multiply;
 use cs_net::Netlist;
 use std::alloc::Global;
-use std::test::Fail;
+use std::process::Abort;
 
 // Whether the first module of a document has so many cells, the last of this name.
 fn has_cells(document: &Document, count: u64, last: &str) -> bool {
@@ -20,10 +20,10 @@ fn has_cells(document: &Document, count: u64, last: &str) -> bool {
 }
 
 // Whether the register, so many times in series, is written as so many cells, the last of this name.
-fn is_written(rt: &HostRuntime, count: u64, last: &str) -> bool {
-    let net = netlist(rt, rt.alloc(), REGISTER);
+fn is_written(rt: &impl Abort, alloc: Global, count: u64, last: &str) -> bool {
+    let net = netlist(rt, alloc, REGISTER);
     match Contexts::new(count) {
-        Some(contexts) => is_multiplied(rt.alloc(), &net, contexts, last),
+        Some(contexts) => is_multiplied(alloc, &net, contexts, last),
         None => false,
     }
 }
@@ -37,9 +37,8 @@ fn is_multiplied(alloc: Global, net: &Netlist, contexts: Contexts, last: &str) -
 
 // One register stays one, and sixteen stand in byte order of their names.
 #[test]
-fn one_and_sixteen(rt: HostRuntime) -> Result<(), Fail> {
+fn one_and_sixteen(rt: HostRuntime) {
     for (count, last) in [(1, "$cs$r0"), (16, "$cs$r9")] {
-        assert!(rt; is_written(&rt, count, last), "{count}");
+        assert!(rt; is_written(&rt, rt.alloc(), count, last), "{count}");
     }
-    Ok(())
 }
