@@ -48,12 +48,12 @@ reaches_below z reach = omega (arith, ints)
 high_of : (z : ℤ) (lags : List ℤ) (reach : ℕ) → AreWithin reach lags → (v : ℕ)
     → (lag_at (z ∷ lags) v) ≤ℤ pos (unsigned_abs z + reach)
 high_of z lags reach within zero = reaches z reach
-high_of z lags reach within (suc v) = farther z (lag_at lags v) reach (within.high v)
+high_of z lags reach within (suc v) = farther z (lag_at lags v) reach (within.each v).high
 
 low_of : (z : ℤ) (lags : List ℤ) (reach : ℕ) → AreWithin reach lags → (v : ℕ)
     → pos 0 ≤ℤ (lag_at (z ∷ lags) v +ℤ pos (unsigned_abs z + reach))
 low_of z lags reach within zero = reaches_below z reach
-low_of z lags reach within (suc v) = farther_below z (lag_at lags v) reach (within.low v)
+low_of z lags reach within (suc v) = farther_below z (lag_at lags v) reach (within.each v).low
 
 none_high : pos 0 ≤ℤ pos 0
 none_high = omega (arith, ints)
@@ -62,13 +62,11 @@ none_low : pos 0 ≤ℤ (pos 0 +ℤ pos 0)
 none_low = omega (arith, ints)
 
 pub reach_of : (lags : List ℤ) → (reach : ℕ) × AreWithin reach lags
-reach_of [] = (0, record { high = λ v. none_high; low = λ v. none_low })
+reach_of [] = (0, record { each = λ v. record { low = none_low; high = none_high } })
 reach_of (z ∷ lags) = let rest = reach_of lags in (
   unsigned_abs z + rest.0,
   record {
-    high = high_of z lags rest.0
-        rest.1;
-    low = low_of z lags rest.0 rest.1;
+    each = λ v. record { low = low_of z lags rest.0 rest.1 v; high = high_of z lags rest.0 rest.1 v };
   },
 )
 

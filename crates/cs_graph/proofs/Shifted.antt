@@ -324,14 +324,14 @@ module _ (g : Graph) (whole : IsWellFormed g) (mode : Mode) (lags : List ℤ) (l
     place = λ v. depth v * whole.order.span + whole.order.place v;
     span = suc (reach + reach) * whole.order.span;
     within = λ v. place_within (depth v) reach whole.order.span (whole.order.place v) (depth_within reach
-        (lag_at lags v) (within.high v) (within.low v)) (whole.order.within v);
+        (lag_at lags v) (within.each v).high (within.each v).low) (whole.order.within v);
     below = λ e d' is none.
         let old = came_from e d' is in
         let d = old.0 in
         let zero_weight : unsigned_abs (weight_under lags d) ≡ 0 = ap (λ (x : Edge). x.weight) (sym old.2)
         ∙ none in
         let down = steps_down reach d.weight (lag_at lags d.from) (lag_at lags d.to) (legal.weights e d
-        old.1) zero_weight (within.high d.from) (within.high d.to) in
+        old.1) zero_weight (within.each d.from).high (within.each d.to).high in
         subst (λ (x : Edge). depth x.from * whole.order.span + whole.order.place x.from < depth x.to *
         whole.order.span + whole.order.place x.to) (sym old.2)
         (sooner (depth d.from) d.weight (depth d.to) whole.order.span (whole.order.place d.from)

@@ -2,6 +2,7 @@
 use Rattle.std.specs.Prelude.{◌≡◌, ℕ, ℤ, pos, ◌+ℤ◌, ◌-ℤ◌, ◌≤ℤ◌, ◌<◌, List, [], length, get_or, map, slice_get, Some, Bool, IsTrue, unsigned_abs}
 use Rattle.std.specs.List.{enumerate_from}
 use Rattle.cs_base.specs.declared.contexts.Mode.{Mode}
+use Rattle.cs_base.specs.Ranges.{IsWithin}
 use Rattle.cs_base.specs.declared.contexts.Mode.TheVariants.{Forward}
 use Rattle.cs_graph.specs.declared.vertex.VertexKind.{VertexKind}
 use Rattle.cs_graph.specs.declared.vertex.Vertex.{Vertex}
@@ -66,15 +67,9 @@ pub record HasStart (g : Graph) (lags : List ℤ) : Type 0 where
 
 -- lags between -reach and reach
 pub record AreWithin (reach : ℕ) (lags : List ℤ) : Type 0 where
-  pub high : (v : ℕ) → (lag_at lags v) ≤ℤ pos reach
-  pub low : (v : ℕ) → pos 0 ≤ℤ (lag_at lags v +ℤ pos reach)
+  pub each : (v : ℕ) → IsWithin reach (lag_at lags v)
 
 -- a vertex of this kind may have this lag
 pub record IsLegalLag (mode : Mode) (kind : VertexKind) (lag : ℤ) : Type 0 where
   pub pinned : IsTrue (is_pinned kind) → lag ≡ pos 0
   pub ahead : mode ≡ Forward → lag ≤ℤ pos 0
-
--- a lag between -reach and reach
-pub record IsSmallLag (reach : ℕ) (lag : ℤ) : Type 0 where
-  pub high : lag ≤ℤ pos reach
-  pub low : pos 0 ≤ℤ (lag +ℤ pos reach)

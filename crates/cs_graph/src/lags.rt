@@ -1,7 +1,8 @@
 // Lags and the weights that they give (Leiserson and Saxe, "Retiming synchronous circuitry").
 ghost use Rattle.std.specs.Prelude.{◌≡◌, ◌^◌, ◌<◌, ◌≤ℤ◌, ◌↔◌, ℕ, pos, Some, IsTrue, length, slice_get};
 ghost use Rattle.std.specs.Bool.{OnTrue, OnFalse};
-ghost use Rattle.cs_graph.specs.Lags.{lag_at, weight_under, AreWithin, IsLegalLag, IsSmallLag};
+ghost use Rattle.cs_base.specs.Ranges.{IsSmall};
+ghost use Rattle.cs_graph.specs.Lags.{lag_at, weight_under, AreWithin, IsLegalLag};
 ghost use Rattle.cs_graph.specs.declared.edge.Edge.{Edge as EdgeValue};
 ghost use Rattle.cs_graph.specs.declared.vertex.Vertex.{Vertex as VertexValue};
 
@@ -71,8 +72,8 @@ pub(crate) fn are_weights(edges: &[Edge], lags: &[i64]) -> bool
 /// Whether the lag of this place is between -2^31 and 2^31.
 fn is_small_lag(lags: &[i64], place: usize) -> bool
     requires { place < length lags.now }
-    ensures yes { OnTrue result (IsSmallLag (2 ^ 31) (lag_at lags.now place)) }
-    ensures no { OnFalse result (IsSmallLag (2 ^ 31) (lag_at lags.now place) → ⊥) }
+    ensures yes { OnTrue result (IsSmall (lag_at lags.now place)) }
+    ensures no { OnFalse result (IsSmall (lag_at lags.now place) → ⊥) }
 {
     let lag = lags[place];
     -2_147_483_648 <= lag && lag <= 2_147_483_648

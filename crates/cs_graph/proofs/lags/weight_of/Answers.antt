@@ -6,10 +6,10 @@ use Rattle.cs_graph.proofs.lags.weight_of.Goals as goal
 pub overflow_add-result : goal.overflow_add-result
 overflow_add-result c =
     let to = c.args.edge.now.to in
-    omega (arith, ints, c.lag_of.ensures, c.requires.high to, c.requires.low to, c.from.ensures)
+    omega (arith, ints, c.lag_of.ensures, (c.requires.each to).high, (c.requires.each to).low, c.from.ensures)
 
 pub overflow_sub-result : goal.overflow_sub-result
 overflow_sub-result c =
     let to = c.args.edge.now.to in
     let from = c.args.edge.now.from in
-    omega (arith, ints, c.lag_of.ensures, c.requires.high to, c.requires.low to, c.from.ensures, c.lag_of-2.ensures, c.requires.high from, c.requires.low from)
+    omega (arith, ints, c.lag_of.ensures, (c.requires.each to).high, (c.requires.each to).low, c.from.ensures, c.lag_of-2.ensures, (c.requires.each from).high, (c.requires.each from).low)
