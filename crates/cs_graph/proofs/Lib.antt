@@ -20,3 +20,4 @@ pub mod PeriodsByPaths
 pub mod RetimedLoops
 pub mod OpenLemmas
 pub mod FinishLemmas
+mod Examples
