@@ -14,7 +14,7 @@ use Rattle.cs_stream.specs.Printing.{response_text}
 use Rattle.cs_stream.specs.Reading.{fault_of as stimulus_fault, stimulus_rows}
 use Rattle.cs_stream.specs.Rows.{rows_of, rows_within}
 use Rattle.cs_stream.proofs.RowLemmas.{length-rows_within}
-use Rattle.cs_run.specs.Answers.{AreFew, most_bytes}
+use Rattle.cs_run.specs.Inputs.{AreFew, most_bytes}
 use Rattle.cs_run.specs.Part.{own_fault}
 use Rattle.cs_run.specs.Mix.{IsMixOf, PartsGiveBack, first_width, mix_fault, stream_fault, stream_rows, uneven_streams}
 use Rattle.cs_run.specs.Rows.{AreRowsOfStreams}

@@ -1,15 +1,18 @@
--- Netlists of bytes.
-use Rattle.std.specs.Prelude.{◌≡◌, ℕ, List, None}
+-- Documents and netlists of bytes.
+use Rattle.std.specs.Prelude.{◌≡◌, ◌⊎◌, ℕ, List, None, Option, Some}
 use Rattle.cs_json.specs.declared.document.Document.{Document}
-use Rattle.cs_json.specs.Shape.{document, NoJson, RefusedAt, Says}
+use Rattle.cs_json.specs.declared.error.DocError.{DocError}
+use Rattle.cs_json.specs.declared.error.DocError.TheVariants as json
+use Rattle.cs_json.specs.Shape.{document, NoJson, Reading, RefusedAt, Says}
+use Rattle.cs_conditions.specs.declared.error.NetError.{NetError}
 use Rattle.cs_net.specs.Netlist.{Net}
 use Rattle.cs_net.specs.Accept.{IsAccepted, IsNetOfTop, Refuses}
 use Rattle.cs_net.specs.Contexts.{no_images}
 use Rattle.cs_net.specs.Isolates.{Isolates}
-use Rattle.cs_run.specs.declared.reason.NetFault.{NetFault}
-use Rattle.cs_run.specs.declared.reason.NetFault.TheVariants.{NotJson, BadShape, NoNet}
-use Rattle.cs_run.specs.declared.reason.Reason.{Reason}
-use Rattle.cs_run.specs.declared.reason.Reason.TheVariants.{NoNetlist}
+use Rattle.cs_report.specs.declared.fault.Fault.{Fault}
+use Rattle.cs_report.specs.declared.fault.Fault.TheVariants.{DocumentNotJson, DocumentShape, NoMemory, Refused}
+
+-- ---- netlists
 
 -- the netlist of bytes is that of the document that they say
 pub record IsNetOf (bytes : List ℕ) (net : Net) : Type 0 where
@@ -31,14 +34,36 @@ pub record BytesIsolate (c : ℕ) (read written : List ℕ) : Type 0 where
   pub of_written : IsNetOf written written_net
   pub isolates : Isolates written_net net (no_images net) c
 
--- bytes say no netlist, because of this fault
-abbrev pub HasFault : List ℕ → NetFault → Type 0
-HasFault bytes NotJson = document bytes ≡ NoJson
-HasFault bytes (BadShape place) = document bytes ≡ RefusedAt place
-HasFault bytes (NoNet error) = (doc : Document) × (document bytes ≡ Says doc) × Refuses doc None error
+-- ---- refusals
 
--- the reason is such a fault
-pub record SaysNoNetlist (bytes : List ℕ) (reason : Reason) : Type 0 where
-  pub fault : NetFault
-  pub has : HasFault bytes fault
-  pub is : reason ≡ NoNetlist fault
+-- why bytes say no document, if they say none
+abbrev pub document_fault : Reading → Option Fault
+document_fault NoJson = Some DocumentNotJson
+document_fault (RefusedAt place) = Some (DocumentShape place)
+document_fault (Says doc) = None
+
+-- the fault of a document that can't be read
+abbrev pub doc_fault : DocError → Fault
+doc_fault json.NotJson = DocumentNotJson
+doc_fault (json.BadShape place) = DocumentShape place
+doc_fault json.NoMemory = NoMemory
+
+-- bytes say no document, because of this fault
+abbrev pub SaysNoDocument : List ℕ → Fault → Type 0
+SaysNoDocument bytes fault = document_fault (document bytes) ≡ Some fault
+
+-- a document has no netlist, or too large a one, because of this fault
+pub record HasNoNetlist (doc : Document) (fault : Fault) : Type 0 where
+  pub error : NetError
+  pub refuses : Refuses doc None error
+  pub is : fault ≡ Refused error
+
+-- bytes say a document that has no netlist, because of this fault
+pub record SaysNoNet (bytes : List ℕ) (fault : Fault) : Type 0 where
+  pub doc : Document
+  pub says : document bytes ≡ Says doc
+  pub none : HasNoNetlist doc fault
+
+-- bytes say no netlist, because of this fault
+abbrev pub SaysNoNetlist : List ℕ → Fault → Type 0
+SaysNoNetlist bytes fault = SaysNoDocument bytes fault ⊎ SaysNoNet bytes fault

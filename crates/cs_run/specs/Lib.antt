@@ -1,12 +1,14 @@
 pub mod Statuses
 pub mod Replies
 pub mod Reasons
+pub mod Inputs
 pub mod Bytes
+pub mod Rows
+pub mod Worlds
 pub mod Slow
 pub mod Sim
 pub mod Mix
 pub mod Part
-pub mod Rows
-pub mod Answers
-pub mod Outcomes
+pub mod Commands
+pub mod Runs
 pub mod Promises

@@ -1,153 +1,150 @@
--- The promises of a run, in plain facts over its words, its files and its sink.
-use Rattle.std.specs.Prelude.{ℕ, ◌≡◌, List, Option, Some, IsSome, Ok, Contains}
-use Rattle.std.specs.Option.{option_map}
-use Rattle.std.specs.FinMap as map
+-- The promises of a run: its contract.
+use Rattle.std.specs.Prelude.{ℕ, ◌≡◌, ◌⊎◌, List, [], Option, Ok, Err, Result, Some, IsSome, IsTrue, Contains}
 use Rattle.cs_io.specs.Faults.{Rose}
-use Rattle.cs_io.specs.Stores.{Files, FileHas, with_file, FailsToWrite}
-use Rattle.cs_report.specs.declared.fault.Fault.TheVariants.{CannotWrite}
+use Rattle.cs_io.specs.Stores.{Files}
+use Rattle.cs_report.specs.declared.fault.Fault.TheVariants.{CannotRead}
 use Rattle.cs_report.specs.FaultLines.{fault_line}
-use Rattle.cs_words.specs.declared.command.Command.TheVariants.{Mix, Slow}
-use Rattle.cs_words.specs.declared.command.SlowWords.{SlowWords}
-use Rattle.cs_words.specs.declared.command.SimWords.{SimWords}
+use Rattle.cs_words.specs.declared.command.Command.{Command}
+use Rattle.cs_words.specs.declared.command.Command.TheVariants.{Mix, Part, Sim, Slow}
 use Rattle.cs_words.specs.declared.command.MixWords.{MixWords}
 use Rattle.cs_words.specs.declared.command.PartWords.{PartWords}
+use Rattle.cs_words.specs.declared.command.SimWords.{SimWords}
+use Rattle.cs_words.specs.declared.command.SlowWords.{SlowWords}
+use Rattle.cs_words.specs.declared.read.WordError.{WordError}
 use Rattle.cs_words.specs.Commands.{command_of}
-use Rattle.cs_run.specs.Answers.{FilesHave}
+use Rattle.cs_run.specs.declared.inputs.FileName.{FileName}
+use Rattle.cs_run.specs.declared.reply.Reply.{Reply}
+use Rattle.cs_run.specs.declared.status.Status.{Status}
 use Rattle.cs_run.specs.Bytes.{BytesIsolate}
-use Rattle.cs_run.specs.Mix.{IsMixed, PartsGiveBack}
-use Rattle.cs_run.specs.Outcomes.{World, Puts, PutsSome, StopsPutting}
-use Rattle.cs_run.specs.Part.{IsPart}
-use Rattle.cs_run.specs.Sim.{IsResponse}
-use Rattle.cs_run.specs.Slow.{IsBuilt}
+use Rattle.cs_run.specs.Commands.{HasInputs, HasReason, Makes, reads_of, writes_of}
+use Rattle.cs_run.specs.Mix.{CouldNotWriteMixed, HasMixed, PartsGiveBack, StreamsHave}
+use Rattle.cs_run.specs.Part.{CouldNotPutPart, HasParted}
+use Rattle.cs_run.specs.Reasons.{Reason}
+use Rattle.cs_run.specs.Runs.{FailsReading, HasAnswer, RanOutOfMemory, Run, words_fault}
+use Rattle.cs_run.specs.Sim.{CouldNotRespond, HasResponded}
+use Rattle.cs_run.specs.Slow.{CouldNotWriteOut, HasWritten, IsBuilt}
+use Rattle.cs_run.specs.Statuses.{all_codes, code_of, is_of_files, status_of}
+use Rattle.cs_run.specs.Worlds.{PutsSome, StopsAtPut, StopsAtWrite, World, after_writes, file_in}
 
--- what the store tells of a file: whether it is there, and its bytes
-abbrev pub file_in : Option Files → List ℕ → Option (Option (List ℕ))
-file_in files name = option_map (λ told. map.get told name) files
+-- ---- names
+
+-- the names that words mean by their command
+abbrev pub names_by : {T : Type 0} → (Command → List T) → Result Command WordError → List T
+names_by names (Ok command) = names command
+names_by names (Err error) = []
+
+-- the files that the words name to be read, and the names of those to be written
+abbrev pub read_names : List (List ℕ) → List FileName
+read_names words = names_by reads_of (command_of words)
+
+abbrev pub write_names : List (List ℕ) → List (List ℕ)
+write_names words = names_by writes_of (command_of words)
 
 -- every file of another name is as before
 abbrev pub OthersStay : List (List ℕ) → Option Files → Option Files → Type 0
 OthersStay names old new = (name : List ℕ) → (Contains names name → ⊥) → file_in new name ≡ file_in old name
 
--- the file of a name has these bytes
-abbrev pub Holds : Option Files → List ℕ → List ℕ → Type 0
-Holds files name bytes = FileHas files name (λ found. found ≡ bytes)
+-- ---- calls
 
--- one file is written and nothing else happens
-pub record WritesOne (old new : World) (name bytes : List ℕ) : Type 0 where
-  pub store : new.store ≡ record old.store { files = with_file old.store.files name bytes }
-  pub sink : new.sink ≡ old.sink
-
--- these bytes are put and nothing else happens
-pub record PutsOnly (old new : World) (bytes : List ℕ) : Type 0 where
-  pub store : new.store ≡ old.store
-  pub sink : Puts old.sink new.sink bytes
-
--- the put of these bytes failed, behind a prefix of them, and nothing else happened
-pub record FailsPutting (old new : World) (bytes : List ℕ) : Type 0 where
-  pub store : new.store ≡ old.store
-  pub sink : StopsPutting old.sink new.sink bytes
-
--- ---- slow
-
--- the words are those of `slow`, and the store tells that their IN has these bytes
-pub record HasInput (words : List (List ℕ)) (files : Option Files) (slow : SlowWords) (bytes : List ℕ) : Type 0 where
-  pub says : command_of words ≡ Ok (Slow slow)
-  pub input : file_in files slow.input ≡ Some (Some bytes)
-
--- `slow` read IN, and goes on to write this netlist
-pub record Builds (files : Option Files) (slow : SlowWords) (netlist : List ℕ) : Type 0 where
-  pub bytes : List ℕ
-  pub input : Holds files slow.input bytes
-  pub built : IsBuilt slow.contexts bytes netlist
-  pub isolates : BytesIsolate slow.contexts bytes netlist
-
--- status 0: OUT holds the netlist, every other file is as before, and nothing was put
-pub record HasWritten (slow : SlowWords) (old new : World) : Type 0 where
-  pub netlist : List ℕ
-  pub builds : Builds old.store.files slow netlist
-  pub writes : WritesOne old new slow.output netlist
-
--- status 4: the write of OUT failed, so its count rose and OUT is as before or holds a prefix; nothing was put
-pub record CouldNotWriteOut (slow : SlowWords) (old new : World) : Type 0 where
-  pub netlist : List ℕ
-  pub builds : Builds old.store.files slow netlist
-  pub store : FailsToWrite old.store new.store slow.output netlist
-  pub sink : new.sink ≡ old.sink
-
--- ---- sim
-
--- `sim` read NET and STIM, and goes on to put this text
-pub record Responds (files : Option Files) (sim : SimWords) (text : List ℕ) : Type 0 where
-  pub bytes : List ℕ
-  pub stim : List ℕ
-  pub net_file : Holds files sim.net bytes
-  pub stim_file : Holds files sim.stim stim
-  pub is : IsResponse bytes stim text
-
--- status 0: the response is put
-pub record HasResponded (sim : SimWords) (old new : World) : Type 0 where
-  pub text : List ℕ
-  pub responds : Responds old.store.files sim text
-  pub puts : PutsOnly old new text
-
--- status 4: the put of the response failed
-pub record CouldNotRespond (sim : SimWords) (old new : World) : Type 0 where
-  pub text : List ℕ
-  pub responds : Responds old.store.files sim text
-  pub fails : FailsPutting old new text
-
--- ---- mix
-
--- the words are those of `mix`, and the store tells that its streams have these bytes
-pub record HasStreams (words : List (List ℕ)) (files : Option Files) (mix : MixWords) (streams : List (List ℕ)) : Type 0 where
-  pub says : command_of words ≡ Ok (Mix mix)
-  pub told : IsSome files
-  pub have : FilesHave files mix.streams streams
-
--- `mix` read its streams, and goes on to write this text
-pub record Mixes (files : Option Files) (mix : MixWords) (text : List ℕ) : Type 0 where
-  pub streams : List (List ℕ)
-  pub have : FilesHave files mix.streams streams
-  pub mixed : IsMixed streams text
-  pub back : PartsGiveBack streams text
-
--- status 0: OUT holds the mixed rows, every other file is as before, and nothing was put
-pub record HasMixed (mix : MixWords) (old new : World) : Type 0 where
-  pub text : List ℕ
-  pub mixes : Mixes old.store.files mix text
-  pub writes : WritesOne old new mix.output text
-
--- status 4: the write of OUT failed, so its count rose and OUT is as before or holds a prefix; the line names it
-pub record CouldNotWriteMixed (mix : MixWords) (old new : World) : Type 0 where
-  pub text : List ℕ
-  pub mixes : Mixes old.store.files mix text
-  pub store : FailsToWrite old.store new.store mix.output text
-  pub sink : PutsSome old.sink new.sink (fault_line (CannotWrite mix.output))
-
--- ---- part
-
--- `part` read its file, and goes on to put this text
-pub record Parts (files : Option Files) (part : PartWords) (text : List ℕ) : Type 0 where
-  pub bytes : List ℕ
-  pub file : Holds files part.file bytes
-  pub parts : IsPart part.k part.contexts bytes text
-
--- status 0: the part is put
-pub record HasParted (part : PartWords) (old new : World) : Type 0 where
-  pub text : List ℕ
-  pub of_file : Parts old.store.files part text
-  pub puts : PutsOnly old new text
-
--- status 4: the put of the part failed
-pub record CouldNotPutPart (part : PartWords) (old new : World) : Type 0 where
-  pub text : List ℕ
-  pub of_file : Parts old.store.files part text
-  pub fails : FailsPutting old new text
-
--- ---- failed calls
+-- no read of the run failed
+abbrev pub HasRead : Run → Type 0
+HasRead run = run.new.store.failed ≡ run.old.store.failed
 
 -- no read, write or put failed
-pub record HasNoFault (old new : World) : Type 0 where
-  pub reads : new.store.failed ≡ old.store.failed
-  pub writes : Rose old.store.faults new.store.faults → ⊥
-  pub puts : Rose old.sink.faults new.sink.faults → ⊥
+pub record HasNoFault (run : Run) : Type 0 where
+  pub reads : HasRead run
+  pub writes : Rose run.old.store.faults run.new.store.faults → ⊥
+  pub puts : Rose run.old.sink.faults run.new.sink.faults → ⊥
+
+-- ---- what a status leaves
+
+-- the words are refused
+pub record RefusedWords (run : Run) : Type 0 where
+  pub error : WordError
+  pub says : command_of run.words ≡ Err error
+  pub store : run.new.store ≡ run.old.store
+  pub sink : PutsSome run.old.sink run.new.sink (fault_line (words_fault error))
+
+-- a file of the command couldn't be read: those before it were, nothing else happened to the store, and the line names it
+pub record CouldNotRead (run : Run) : Type 0 where
+  pub fails : FailsReading (read_names run.words) run.old.store run.new.store
+  pub sink : PutsSome run.old.sink run.new.sink (fault_line (CannotRead fails.name))
+
+-- a command has made a reply, but for a write that failed, or for a put behind the writes
+pub record CouldNotWrite (run : Run) : Type 0 where
+  pub command : Command
+  pub reply : Reply
+  pub says : command_of run.words ≡ Ok command
+  pub answer : HasAnswer command run.old.store reply
+  pub stops : StopsAtWrite reply.writes run.old run.new
+      ⊎ ((run.new.store ≡ after_writes run.old.store reply.writes) × StopsAtPut reply.texts run.old.sink run.new.sink)
+
+-- a command is refused with this status, for a reason that its files have, whose line is put; the store stays
+pub record RefusedFiles (run : Run) (status : Status) : Type 0 where
+  pub command : Command
+  pub reason : Reason
+  pub says : command_of run.words ≡ Ok command
+  pub has : HasReason command run.old.store.files reason.fault
+  pub to : status_of reason.fault ≡ status
+  pub store : run.new.store ≡ run.old.store
+  pub sink : PutsSome run.old.sink run.new.sink (fault_line reason.fault)
+
+-- ---- one command
+
+-- the words are those of `slow`, and the store tells that its IN has these bytes
+pub record HasInput (run : Run) (slow : SlowWords) (bytes : List ℕ) : Type 0 where
+  pub says : command_of run.words ≡ Ok (Slow slow)
+  pub input : file_in run.old.store.files slow.input ≡ Some (Some bytes)
+
+-- the words are those of `mix`, and the store tells that its streams have these bytes
+pub record HasStreams (run : Run) (mix : MixWords) (streams : List (List ℕ)) : Type 0 where
+  pub says : command_of run.words ≡ Ok (Mix mix)
+  pub told : IsSome run.old.store.files
+  pub have : StreamsHave run.old.store.files mix.streams streams
+
+-- ---- the contract
+
+-- what a run that answers this number promises
+pub record Promises (run : Run) (result : ℕ) : Type 0 where
+  pub statuses : Contains all_codes result
+  -- what each status but 0 leaves in the store and the sink, and when it comes
+  pub no_memory : result ≡ 1 → RanOutOfMemory (read_names run.words) run.old run.new
+  pub usage_only : result ≡ 2 → RefusedWords run
+  pub read_fault : result ≡ 3 → CouldNotRead run
+  pub write_fault : result ≡ 4 → CouldNotWrite run
+  pub refused_only : (status : Status) → IsTrue (is_of_files status) → result ≡ code_of status → RefusedFiles run status
+  -- words that say no command are refused, but for want of memory
+  pub usage : (error : WordError) → command_of run.words ≡ Err error → (result ≡ 2) ⊎ (result ≡ 1)
+  -- a command whose files the store tells, and give a reason to refuse it, is refused with that reason's status where
+  -- no read failed, but for want of memory
+  pub refused : (command : Command) (reason : Reason) → command_of run.words ≡ Ok command
+      → IsSome run.old.store.files → HasReason command run.old.store.files reason.fault → HasRead run
+      → (result ≡ code_of (status_of reason.fault)) ⊎ (result ≡ 1)
+  -- a command whose files give no such reason, and in which no call fails, is done, but for want of memory
+  pub unrefused : (command : Command) → command_of run.words ≡ Ok command
+      → ((reason : Reason) → HasReason command run.old.store.files reason.fault → ⊥)
+      → HasNoFault run → (result ≡ 0) ⊎ (result ≡ 1)
+  -- where the store tells files that a command answers with a reply, and no call fails, it is done, but for want of memory
+  pub complete : (command : Command) (reply : Reply) → command_of run.words ≡ Ok command
+      → IsSome run.old.store.files → HasInputs command run.old.store.files (λ inputs. Makes command inputs reply)
+      → HasNoFault run → (result ≡ 0) ⊎ (result ≡ 1)
+  -- all other files stay
+  pub others : OthersStay (write_names run.words) run.old.store.files run.new.store.files
+  -- `slow` at status 0: OUT holds the written document, whose netlist isolates that of IN's bytes at entry
+  pub slow_done : (slow : SlowWords) → command_of run.words ≡ Ok (Slow slow) → result ≡ 0 → HasWritten slow run.old run.new
+  pub slow_unwritten : (slow : SlowWords) → command_of run.words ≡ Ok (Slow slow) → result ≡ 4 → CouldNotWriteOut slow run.old run.new
+  pub slow_output : result ≡ 0 → (slow : SlowWords) (bytes netlist : List ℕ) → HasInput run slow bytes
+      → IsBuilt slow.contexts bytes netlist → file_in run.new.store.files slow.output ≡ Some (Some netlist)
+  pub slow_isolates : result ≡ 0 → (slow : SlowWords) (bytes netlist : List ℕ) → HasInput run slow bytes
+      → file_in run.new.store.files slow.output ≡ Some (Some netlist) → BytesIsolate slow.contexts bytes netlist
+  -- `sim` at status 0: the printed rows that the netlist of NET answers to the rows of STIM are put
+  pub sim_responded : (sim : SimWords) → command_of run.words ≡ Ok (Sim sim) → result ≡ 0 → HasResponded sim run.old run.new
+  pub sim_unput : (sim : SimWords) → command_of run.words ≡ Ok (Sim sim) → result ≡ 4 → CouldNotRespond sim run.old run.new
+  -- `mix` at status 0: OUT holds the printed rows of the streams in turn, of which `part` gives each stream's back
+  pub mix_done : (mix : MixWords) → command_of run.words ≡ Ok (Mix mix) → result ≡ 0 → HasMixed mix run.old run.new
+  pub mix_unwritten : (mix : MixWords) → command_of run.words ≡ Ok (Mix mix) → result ≡ 4 → CouldNotWriteMixed mix run.old run.new
+  pub mix_parts_back : result ≡ 0 → (mix : MixWords) (streams : List (List ℕ)) (text : List ℕ) → HasStreams run mix streams
+      → file_in run.new.store.files mix.output ≡ Some (Some text) → PartsGiveBack streams text
+  -- `part` at status 0: the printed rows of one context are put
+  pub part_done : (part : PartWords) → command_of run.words ≡ Ok (Part part) → result ≡ 0 → HasParted part run.old run.new
+  pub part_unput : (part : PartWords) → command_of run.words ≡ Ok (Part part) → result ≡ 4 → CouldNotPutPart part run.old run.new

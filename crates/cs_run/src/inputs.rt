@@ -1,51 +1,87 @@
-// Reads the files of a command.
-ghost use Rattle.std.specs.Prelude.{◌≡◌, IfErr, IfOk};
-ghost use Rattle.cs_run.specs.Outcomes.{ReadsInput, ReadsInputs, overlong, unread};
-ghost use Rattle.cs_run.specs.declared.inputs.Stop.TheVariants.{Answered, OutOfMemory};
+// The files that a command reads, by their roles.
+ghost use Rattle.std.specs.Prelude.{◌≡◌, IfOk};
+ghost use Rattle.std.specs.Option.{option_copied};
+ghost use Rattle.cs_run.specs.Inputs.{bytes_of, file, found_bytes};
+ghost use Rattle.cs_report.specs.declared.fault.Fault.TheVariants.{CannotRead, FileTooLong};
+ghost use Rattle.cs_run.specs.Reasons.{StopsAt};
+ghost use Rattle.cs_run.specs.Runs.{ReadsInput, ReadsInputs};
 
-use crate::reason::{Reason, refuse_for};
-use crate::reply::{Reply, refuse};
-use crate::status::Status;
+use crate::stop::{Stop, stop_at};
 use cs_base::{Sequence, Text};
 use cs_io::{Store, StoreError};
 use cs_report::Fault;
-use std::alloc::{AllocError, AllocFailed, Global};
+use std::alloc::{AllocError, Global};
 
 const MOST_BYTES: u64 = 67_108_864;
 
-/// Why a command goes no further: want of memory, or a reply that was decided early.
-#[derive(Debug, Drop)]
-pub enum Stop {
-    OutOfMemory,
-    Answered(Reply),
+/// What a file is to its command.
+#[derive(Clone, Copy, Debug, PartialEq, Eq)]
+pub enum Role {
+    In,
+    Net,
+    Stim,
+    /// One of the streams that are mixed.
+    Stream,
+    File,
 }
 
-impl From<AllocError> for Stop {
-    ghost from_gives = { λ _ stop. stop ≡ OutOfMemory };
+impl Role {
+    ghost use Rattle.cs_run.specs.Inputs.{number_of};
 
-    fn from(_: AllocError) -> Self {
-        Stop::OutOfMemory
-    }
-}
-
-impl<T: Drop> From<AllocFailed<T>> for Stop {
-    ghost from_gives = { λ _ stop. stop ≡ OutOfMemory };
-
-    fn from(_: AllocFailed<T>) -> Self {
-        Stop::OutOfMemory
-    }
-}
-
-impl Stop {
-    // A refusal ends the command, and so does want of memory for it.
-    pub(crate) fn by(refusal: Result<Reply, AllocError>) -> Self
-        ensures answered { IfOk refusal (λ reply. result ≡ Answered reply) }
-        ensures memory { IfErr refusal (λ _. result ≡ OutOfMemory) }
+    fn number(self) -> u8
+        ensures { result ≡ number_of self }
     {
-        match refusal {
-            Ok(reply) => Stop::Answered(reply),
-            Err(AllocError) => Stop::OutOfMemory,
+        self as u8
+    }
+}
+
+/// A file that a command reads.
+#[derive(Debug, Drop)]
+pub struct FileName {
+    pub role: Role,
+    pub name: Text,
+}
+
+/// What was read of a file.
+#[derive(Debug, Drop)]
+pub struct Input {
+    pub role: Role,
+    pub bytes: Sequence<u8>,
+}
+
+/// The file of a role.
+pub fn file(alloc: Global, role: Role, name: &Text) -> Result<FileName, AllocError>
+    ensures { IfOk result (λ f. f ≡ file role name.now) }
+{
+    Ok(FileName {
+        role,
+        name: name.copy(alloc)?,
+    })
+}
+
+/// The bytes of the file of a role, where the command read one.
+pub fn found_bytes(role: Role, inputs: &[Input]) -> Option<&[u8]>
+    ensures { option_copied result ≡ found_bytes role inputs.now }
+{
+    match inputs {
+        [] => None,
+        [input, others @ ..] => {
+            if input.role.number() == role.number() {
+                Some(input.bytes.as_slice())
+            } else {
+                found_bytes(role, others)
+            }
         }
+    }
+}
+
+/// The bytes of the file of a role that the command always reads.
+pub fn bytes_of(role: Role, inputs: &[Input]) -> &[u8]
+    ensures { result.now ≡ bytes_of role inputs.now }
+{
+    match found_bytes(role, inputs) {
+        Some(bytes) => bytes,
+        None => &[],
     }
 }
 
@@ -55,39 +91,47 @@ pub fn read_input<S: Store>(alloc: Global, name: &Text, store: &mut S) -> Result
 {
     match store.read(alloc, name.as_str(), MOST_BYTES) {
         Ok(bytes) => Ok(bytes),
-        Err(StoreError::Failed) => Err(Stop::by(unread(alloc, name))),
-        Err(StoreError::TooLong { .. }) => Err(Stop::by(overlong(alloc, name))),
+        Err(StoreError::Failed) => Err(unread(alloc, name)),
+        Err(StoreError::TooLong { .. }) => Err(overlong(alloc, name)),
         Err(StoreError::NoMemory) => Err(Stop::OutOfMemory),
     }
 }
 
 // The refusal of a file that can't be read.
-fn unread(alloc: Global, name: &Text) -> Result<Reply, AllocError>
-    ensures { IfOk result (λ reply. reply ≡ unread name.now) }
+fn unread(alloc: Global, name: &Text) -> Stop
+    ensures { StopsAt (CannotRead name.now) result }
 {
-    let fault = Fault::CannotRead(name.copy(alloc)?);
-    refuse(alloc, Status::ReadFault, &fault)
+    match name.copy(alloc) {
+        Ok(name) => stop_at(alloc, Fault::CannotRead(name)),
+        Err(AllocError) => Stop::OutOfMemory,
+    }
 }
 
 // The refusal of a file that is too long.
-fn overlong(alloc: Global, name: &Text) -> Result<Reply, AllocError>
-    ensures { IfOk result (λ reply. reply ≡ overlong name.now) }
+fn overlong(alloc: Global, name: &Text) -> Stop
+    ensures { StopsAt (FileTooLong name.now) result }
 {
-    refuse_for(alloc, Reason::TooLong(name.copy(alloc)?))
+    match name.copy(alloc) {
+        Ok(name) => stop_at(alloc, Fault::FileTooLong(name)),
+        Err(AllocError) => Stop::OutOfMemory,
+    }
 }
 
 /// The bytes of the files of a command, read in order up to the first that ends it.
 pub fn read_inputs<S: Store>(
     alloc: Global,
-    names: &[Text],
+    reads: &[FileName],
     store: &mut S,
-) -> Result<Sequence<Sequence<u8>>, Stop>
-    ensures { ReadsInputs (S.state store.old) (S.state store.new) names.now result }
+) -> Result<Sequence<Input>, Stop>
+    ensures { ReadsInputs (S.state store.old) (S.state store.new) reads.now result }
 {
     let mut inputs = Sequence::new(alloc);
-    for name in names {
-        let bytes = read_input(alloc, name, store)?;
-        inputs.push(Sequence::from_vec(bytes))?;
+    for read in reads {
+        let bytes = read_input(alloc, &read.name, store)?;
+        inputs.push(Input {
+            role: read.role,
+            bytes: Sequence::from_vec(bytes),
+        })?;
     }
     Ok(inputs)
 }

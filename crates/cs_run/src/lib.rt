@@ -1,30 +1,33 @@
-//! The whole program as one call over a store and a sink: a command makes a reply, which is then carried out.
+//! The whole program as one call over a store and a sink: a command reads its files, and makes of them a reply that is
+//! then carried out, or is refused.
 #![tactic(auto)]
 
-mod answers;
+mod commands;
 mod finish;
+mod in_memory;
 mod inputs;
 mod mixing;
 mod netlists;
 mod parting;
 mod program;
-mod reason;
 mod reply;
 mod rows;
 mod simulation;
 mod slow;
 mod status;
+mod stop;
 
-pub use answers::answer_command;
-pub use finish::carry_out;
-pub use inputs::{Stop, read_input, read_inputs};
+pub use commands::{answer_command, run_command};
+pub use finish::{carry_out, put_stop};
+pub use in_memory::run_in_memory;
+pub use inputs::{FileName, Input, Role, bytes_of, file, found_bytes, read_input, read_inputs};
 pub use mixing::answer_mix;
-pub use netlists::read_netlist;
+pub use netlists::{read_doc, read_net, read_netlist};
 pub use parting::answer_part;
 pub use program::run;
-pub use reason::{NetFault, Reason, refuse_for};
-pub use reply::{NewFile, Reply, putting, refuse, writing};
+pub use reply::{NewFile, Refusal, Reply, putting, refuse, writing};
 pub use rows::read_rows;
 pub use simulation::answer_sim;
 pub use slow::answer_slow;
-pub use status::Status;
+pub use status::{Status, status_of};
+pub use stop::{Stop, built_fault, rows_fault, stop_at};

@@ -1,24 +1,22 @@
 // The command `part`.
 ghost use Rattle.std.specs.Prelude.{◌<◌, IfOk};
-ghost use Rattle.cs_run.specs.Part.{AnswersPart, own_width};
+ghost use Rattle.cs_run.specs.Part.{AnswersPart, MakesPart, own_width};
 ghost use Rattle.cs_run.specs.Rows.{AreRowsOf};
 
-use crate::reason::{Reason, refuse_for};
 use crate::reply::{Reply, putting};
 use crate::rows::read_rows;
+use crate::stop::Stop;
 use cs_stream::{Stimulus, part, print_response, width_of};
 use cs_words::PartWords;
 use std::alloc::{AllocError, Global};
 
-/// The reply of `part` to the bytes of its file: the rows of one context, which are as wide as the first line.
-pub fn answer_part(alloc: Global, words: &PartWords, bytes: &[u8]) -> Result<Reply, AllocError>
+/// The answer of `part` to the bytes of its file: the rows of one context, which are as wide as the first line.
+pub fn answer_part(alloc: Global, words: &PartWords, bytes: &[u8]) -> Result<Reply, Stop>
     requires { words.now.k < words.now.contexts }
-    ensures { IfOk result (AnswersPart words.now bytes.now) }
+    ensures { AnswersPart words.now bytes.now result }
 {
-    match read_rows(alloc, bytes, width_of(bytes))? {
-        Ok(rows) => put_part(alloc, words, bytes, &rows),
-        Err(error) => refuse_for(alloc, Reason::NoRows(error)),
-    }
+    let rows = read_rows(alloc, bytes, width_of(bytes))?;
+    Ok(put_part(alloc, words, bytes, &rows)?)
 }
 
 fn put_part(
@@ -29,10 +27,10 @@ fn put_part(
 ) -> Result<Reply, AllocError>
     requires within { words.now.k < words.now.contexts }
     requires rows { AreRowsOf (own_width bytes.now) bytes.now rows.now }
-    ensures { IfOk result (AnswersPart words.now bytes.now) }
+    ensures { IfOk result (MakesPart words.now bytes.now) }
 {
     let _ = bytes;
     let own = part(alloc, words.k, words.contexts, rows)?;
     let text = print_response(alloc, &own)?;
-    Ok(putting(alloc, text))
+    putting(alloc, text)
 }

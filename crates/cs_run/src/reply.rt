@@ -1,9 +1,8 @@
 // What a run is to write, put and answer once its files are read.
 ghost use Rattle.std.specs.Prelude.{◌≡◌, IfOk};
-ghost use Rattle.cs_report.specs.FaultLines.{fault_line};
-ghost use Rattle.cs_run.specs.Replies.{putting, refusal, writing};
+ghost use Rattle.cs_run.specs.Replies.{putting, refusal_for, writing};
 
-use crate::status::Status;
+use crate::status::{Status, status_of};
 use cs_base::{Sequence, Text};
 use cs_report::{Fault, fault_text};
 use std::alloc::{AllocError, Global};
@@ -16,35 +15,44 @@ pub struct NewFile {
     pub fault_line: Sequence<u8>,
 }
 
-/// A command's reply: the files are written in order, then the text is put, and the status is answered.
+/// A command's own answer, of any status: the files are written in order, then the texts are put one by one, and the
+/// status is answered.
 #[derive(Debug, Drop)]
 pub struct Reply {
     pub status: Status,
     pub writes: Sequence<NewFile>,
-    pub text: Sequence<u8>,
+    pub texts: Sequence<Sequence<u8>>,
 }
 
-/// A status and the line of its fault, with nothing written.
-pub fn refuse(alloc: Global, status: Status, fault: &Fault) -> Result<Reply, AllocError>
-    ensures { IfOk result (λ reply. reply ≡ refusal status (fault_line fault.now)) }
+/// The answer of a run that only puts a line.
+#[derive(Debug, Drop)]
+pub struct Refusal {
+    pub status: Status,
+    pub line: Sequence<u8>,
+}
+
+/// The status and the line of a fault.
+pub fn refuse(alloc: Global, fault: &Fault) -> Result<Refusal, AllocError>
+    ensures { IfOk result (λ refusal. refusal ≡ refusal_for fault.now) }
 {
     let line = fault_text(alloc, fault)?;
-    Ok(Reply {
-        status,
-        writes: Sequence::new(alloc),
-        text: Sequence::from_vec(line),
+    Ok(Refusal {
+        status: status_of(fault),
+        line: Sequence::from_vec(line),
     })
 }
 
-/// A reply that puts these bytes.
-pub fn putting(alloc: Global, text: Vec<u8>) -> Reply
-    ensures { result ≡ putting text.items }
+/// A reply that puts one text.
+pub fn putting(alloc: Global, text: Vec<u8>) -> Result<Reply, AllocError>
+    ensures { IfOk result (λ reply. reply ≡ putting text.items) }
 {
-    Reply {
+    let mut texts = Sequence::new(alloc);
+    texts.push(Sequence::from_vec(text))?;
+    Ok(Reply {
         status: Status::Done,
         writes: Sequence::new(alloc),
-        text: Sequence::from_vec(text),
-    }
+        texts,
+    })
 }
 
 /// A reply that writes one file and puts nothing; where the write fails, the line is put.
@@ -65,6 +73,6 @@ pub fn writing(
     Ok(Reply {
         status: Status::Done,
         writes,
-        text: Sequence::new(alloc),
+        texts: Sequence::new(alloc),
     })
 }

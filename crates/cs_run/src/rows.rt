@@ -1,23 +1,20 @@
 // Rows of bytes.
-ghost use Rattle.std.specs.Prelude.{◌≡◌, IfOk, MatchResult, Some};
+ghost use Rattle.std.specs.Prelude.{IfErr, IfOk};
 ghost use Rattle.cs_stream.specs.Reading.{fault_of as stimulus_fault};
+ghost use Rattle.cs_run.specs.Reasons.{HasNoRows, StopsFor};
 ghost use Rattle.cs_run.specs.Rows.{AreRowsOf};
 
-use cs_stream::{StimError, Stimulus, read_stimulus};
-use std::alloc::{AllocError, Global};
+use crate::stop::{Stop, rows_fault, stop_at};
+use cs_stream::{Stimulus, read_stimulus};
+use std::alloc::Global;
 
-/// The rows of a width that bytes say, or their first fault.
-pub fn read_rows(
-    alloc: Global,
-    bytes: &[u8],
-    width: usize,
-) -> Result<Result<Stimulus, StimError>, AllocError>
-    ensures { IfOk result (λ found. MatchResult found
-        (AreRowsOf width bytes.now) (λ error. stimulus_fault width bytes.now ≡ Some error)) }
+/// The rows of a width that bytes say; a faulty line ends the command.
+pub fn read_rows(alloc: Global, bytes: &[u8], width: usize) -> Result<Stimulus, Stop>
+    ensures ok { IfOk result (AreRowsOf width bytes.now) }
+    ensures err { IfErr result (StopsFor (HasNoRows (stimulus_fault width bytes.now))) }
 {
     match read_stimulus(alloc, bytes, width) {
-        Ok(rows) => Ok(Ok(rows)),
-        Err(StimError::NoMemory) => Err(AllocError),
-        Err(error) => Ok(Err(error)),
+        Ok(rows) => Ok(rows),
+        Err(error) => Err(stop_at(alloc, rows_fault(error))),
     }
 }

@@ -1,42 +1,33 @@
 // The command `sim`.
-ghost use Rattle.std.specs.Prelude.{◌≡◌, IfOk, length};
+ghost use Rattle.std.specs.Prelude.{IfOk, length};
 ghost use Rattle.cs_net.specs.Drivers.{data_inputs};
 ghost use Rattle.cs_run.specs.Bytes.{IsNetlistOf};
 ghost use Rattle.cs_run.specs.Rows.{AreRowsOf};
-ghost use Rattle.cs_run.specs.Sim.{AnswersSim};
+ghost use Rattle.cs_run.specs.Sim.{AnswersSim, MakesSim};
 
 use crate::netlists::read_netlist;
-use crate::reason::{Reason, refuse_for};
 use crate::reply::{Reply, putting};
 use crate::rows::read_rows;
+use crate::stop::Stop;
 use cs_net::Netlist;
 use cs_sim::respond;
 use cs_stream::{Stimulus, print_response};
 use std::alloc::{AllocError, Global};
 
-/// The reply of `sim` to the bytes of NET and of STIM: the rows that the netlist answers from its own start.
-pub fn answer_sim(alloc: Global, bytes: &[u8], stim: &[u8]) -> Result<Reply, AllocError>
-    ensures { IfOk result (AnswersSim bytes.now stim.now) }
+/// The answer of `sim` to the bytes of NET and of STIM: the rows that the netlist answers from its own start.
+pub fn answer_sim(alloc: Global, bytes: &[u8], stim: &[u8]) -> Result<Reply, Stop>
+    ensures { AnswersSim bytes.now stim.now result }
 {
-    match read_netlist(alloc, bytes)? {
-        Ok(net) => answer_stimulus(alloc, bytes, &net, stim),
-        Err(fault) => refuse_for(alloc, Reason::NoNetlist(fault)),
-    }
+    let net = read_netlist(alloc, bytes)?;
+    answer_stimulus(alloc, bytes, &net, stim)
 }
 
-fn answer_stimulus(
-    alloc: Global,
-    bytes: &[u8],
-    net: &Netlist,
-    stim: &[u8],
-) -> Result<Reply, AllocError>
+fn answer_stimulus(alloc: Global, bytes: &[u8], net: &Netlist, stim: &[u8]) -> Result<Reply, Stop>
     requires { IsNetlistOf bytes.now net.now }
-    ensures { IfOk result (AnswersSim bytes.now stim.now) }
+    ensures { AnswersSim bytes.now stim.now result }
 {
-    match read_rows(alloc, stim, net.input_count())? {
-        Ok(rows) => put_response(alloc, bytes, net, stim, &rows),
-        Err(error) => refuse_for(alloc, Reason::NoRows(error)),
-    }
+    let rows = read_rows(alloc, stim, net.input_count())?;
+    Ok(put_response(alloc, bytes, net, stim, &rows)?)
 }
 
 fn put_response(
@@ -48,11 +39,11 @@ fn put_response(
 ) -> Result<Reply, AllocError>
     requires of_net { IsNetlistOf bytes.now net.now }
     requires rows { AreRowsOf (length (data_inputs net.now)) stim.now rows.now }
-    ensures { IfOk result (AnswersSim bytes.now stim.now) }
+    ensures { IfOk result (MakesSim bytes.now stim.now) }
 {
     let _ = bytes;
     let _ = stim;
     let answer = respond(alloc, net, rows)?;
     let text = print_response(alloc, &answer)?;
-    Ok(putting(alloc, text))
+    putting(alloc, text)
 }

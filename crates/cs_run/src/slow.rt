@@ -1,25 +1,22 @@
 // The command `slow`.
-ghost use Rattle.std.specs.Prelude.{◌≡◌, IfOk, None};
 ghost use Rattle.cs_run.specs.Bytes.{IsNetlistOf};
 ghost use Rattle.cs_run.specs.Slow.{AnswersSlow};
 
 use crate::netlists::read_netlist;
-use crate::reason::{Reason, refuse_for};
 use crate::reply::{Reply, writing};
+use crate::stop::{Stop, built_fault, stop_at};
 use cs_json::print_document;
-use cs_multiply::{MultiplyError, multiply};
+use cs_multiply::multiply;
 use cs_net::Netlist;
 use cs_words::SlowWords;
-use std::alloc::{AllocError, Global};
+use std::alloc::Global;
 
-/// The reply of `slow` to the bytes of IN: the netlist with its registers multiplied.
-pub fn answer_slow(alloc: Global, words: &SlowWords, bytes: &[u8]) -> Result<Reply, AllocError>
-    ensures { IfOk result (AnswersSlow words.now bytes.now) }
+/// The answer of `slow` to the bytes of IN: the netlist with its registers multiplied.
+pub fn answer_slow(alloc: Global, words: &SlowWords, bytes: &[u8]) -> Result<Reply, Stop>
+    ensures { AnswersSlow words.now bytes.now result }
 {
-    match read_netlist(alloc, bytes)? {
-        Ok(net) => answer_netlist(alloc, words, bytes, &net),
-        Err(fault) => refuse_for(alloc, Reason::NoNetlist(fault)),
-    }
+    let net = read_netlist(alloc, bytes)?;
+    answer_netlist(alloc, words, bytes, &net)
 }
 
 // A failed write of OUT puts nothing.
@@ -28,17 +25,16 @@ fn answer_netlist(
     words: &SlowWords,
     bytes: &[u8],
     net: &Netlist,
-) -> Result<Reply, AllocError>
+) -> Result<Reply, Stop>
     requires { IsNetlistOf bytes.now net.now }
-    ensures { IfOk result (AnswersSlow words.now bytes.now) }
+    ensures { AnswersSlow words.now bytes.now result }
 {
     let _ = bytes;
     match multiply(alloc, net, words.contexts) {
         Ok(document) => {
             let text = print_document(alloc, &document)?;
-            writing(alloc, &words.output, text, Vec::new(alloc))
+            Ok(writing(alloc, &words.output, text, Vec::new(alloc))?)
         }
-        Err(MultiplyError::NoMemory) => Err(AllocError),
-        Err(error) => refuse_for(alloc, Reason::NotHandled(error)),
+        Err(error) => Err(stop_at(alloc, built_fault(error))),
     }
 }

@@ -1,5 +1,9 @@
 // The exit statuses.
 ghost use Rattle.std.specs.Prelude.{◌≡◌};
+ghost use Rattle.cs_run.specs.Statuses.{net_status, status_of};
+
+use cs_conditions::NetError;
+use cs_report::Fault;
 
 /// How a run ended.
 #[derive(Clone, Copy, Debug, PartialEq, Eq)]
@@ -24,5 +28,33 @@ impl Status {
         ensures { result ≡ code_of self }
     {
         self as u8
+    }
+}
+
+fn net_status(error: &NetError) -> Status
+    ensures { result ≡ net_status error.now }
+{
+    match error {
+        NetError::Limit(_) => Status::Limit,
+        NetError::NoMemory => Status::NoMemory,
+        _ => Status::NetlistFault,
+    }
+}
+
+/// The status of a run that tells this fault.
+pub fn status_of(fault: &Fault) -> Status
+    ensures { result ≡ status_of fault.now }
+{
+    match fault {
+        Fault::NoMemory => Status::NoMemory,
+        Fault::NoCommand | Fault::WordsOf(_) => Status::Usage,
+        Fault::CannotRead(_) => Status::ReadFault,
+        Fault::CannotWrite(_) => Status::WriteFault,
+        Fault::DocumentNotJson | Fault::DocumentShape(_) => Status::DocumentFault,
+        Fault::Refused(error) => net_status(error),
+        Fault::Limit(_) | Fault::FileTooLong(_) => Status::Limit,
+        Fault::StimulusWidth { .. } | Fault::StimulusCharacter { .. } | Fault::StimulusUneven(_) =>
+            Status::StimulusFault,
+        Fault::NotBuilt | Fault::NotBuiltCell(_) => Status::NotBuilt,
     }
 }

@@ -1,12 +1,13 @@
-use Rattle.std.proofs.Common.{◌∙◌, ap, sym}
+use Rattle.std.proofs.Common.{subst}
 use Rattle.cs_stream.specs.Reading.{fault_of as stimulus_fault}
-use Rattle.cs_run.specs.declared.reason.Reason.TheVariants.{NoRows}
-use Rattle.cs_run.specs.Part.{MakesPart, RefusesPart, own_fault}
-use Rattle.cs_run.proofs.ReplyLemmas.{if_refuses, no_rows}
+use Rattle.cs_run.specs.Part.{MakesPart, RefusesPart}
+use Rattle.cs_run.specs.Reasons.{HasNoRows, StopsFor}
+use Rattle.cs_run.proofs.StopLemmas.{handed_on}
 use Rattle.cs_run.proofs.parting.answer_part.Goals as goal
 
-pub returns-in-Err : goal.returns-in-Err
-returns-in-Err c =
-    if_refuses (MakesPart c.args.words.now c.args.bytes.now) (RefusesPart c.args.bytes.now) c.refuse_for.result (NoRows c.in-Err.error)
-    (no_rows (own_fault c.args.bytes.now) c.in-Err.error
-    (ap (λ w. stimulus_fault w c.args.bytes.now) (sym c.width_of.ensures) ∙ rw c.in-Err.is at c.in_ok-rows.ensures)) c.refuse_for.ensures
+pub returns-in_err-rows : goal.returns-in_err-rows
+returns-in_err-rows c =
+    let bytes = c.args.bytes.now in
+    let stop = c.in_err-rows.field-0.0 in
+    handed_on (MakesPart c.args.words.now bytes) (RefusesPart bytes) stop c.from_residual.result c.from_residual.ensures.1
+    (subst (λ w. StopsFor (HasNoRows (stimulus_fault w bytes)) stop) c.width_of.ensures c.in_err-rows.ensures.err)

@@ -1,8 +1,11 @@
-use Rattle.std.proofs.Common.{◌≡◌, List, inl, subst}
+use Rattle.std.proofs.Common.{◌≡◌, List, refl, subst}
 use Rattle.cs_net.specs.Drivers.{own_start}
 use Rattle.cs_net.specs.Netlist.{state_of}
 use Rattle.cs_net.specs.Trace.{Answers, Row}
 use Rattle.cs_stream.specs.Rows.{rows_of}
+use Rattle.cs_run.specs.Replies.{putting}
+use Rattle.cs_run.specs.Sim.{MakesSim}
+use Rattle.cs_run.proofs.StopLemmas.{if_reply}
 use Rattle.cs_run.proofs.simulation.put_response.Goals as goal
 
 pub returns : goal.returns
@@ -11,7 +14,8 @@ returns c =
     let from = state_of (own_start net) in
     let rows = rows_of c.in_ok-answer.answer in
     let OneAnswer : List Row → Type 0 = λ asked. (other : List Row) → Answers net from asked other → other ≡ rows in
-    inl (record {
+    if_reply (MakesSim c.args.bytes.now c.args.stim.now) c.putting.result (putting c.in_ok-text.text.items)
+    (record {
       text = c.in_ok-text.text.items;
       responds = record {
         net = net;
@@ -22,5 +26,5 @@ returns c =
         only = subst OneAnswer c.requires.rows.are c.in_ok-answer.ensures.only;
         is = c.in_ok-text.ensures.text;
       };
-      is = c.putting.ensures;
-    })
+      is = refl;
+    }) c.putting.ensures

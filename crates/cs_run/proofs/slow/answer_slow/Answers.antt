@@ -1,11 +1,14 @@
 use Rattle.std.proofs.Common.{inl}
-use Rattle.cs_run.specs.declared.reason.Reason.TheVariants.{NoNetlist}
+use Rattle.cs_run.specs.Bytes.{SaysNoNetlist}
 use Rattle.cs_run.specs.Slow.{BuildsIsolate, MakesSlow, RefusesSlow}
-use Rattle.cs_run.proofs.ReplyLemmas.{if_refuses, no_netlist}
+use Rattle.cs_run.proofs.StopLemmas.{handed_on, implies}
 use Rattle.cs_run.proofs.slow.answer_slow.Goals as goal
 
-pub returns-in-Err : goal.returns-in-Err
-returns-in-Err c =
+pub returns-in_err-net : goal.returns-in_err-net
+returns-in_err-net c =
+    let words = c.args.words.now in
     let bytes = c.args.bytes.now in
-    if_refuses (λ r. MakesSlow c.args.words.now bytes r × BuildsIsolate c.args.words.now.contexts bytes) (RefusesSlow bytes) c.refuse_for.result (NoNetlist c.in-Err.fault)
-    (inl (no_netlist bytes c.in-Err.fault (rw c.in-Err.is at c.in_ok-net.ensures))) c.refuse_for.ensures
+    let stop = c.in_err-net.field-0.0 in
+    handed_on (λ reply. MakesSlow words bytes reply × BuildsIsolate words.contexts bytes) (RefusesSlow bytes) stop
+    c.from_residual.result c.from_residual.ensures.1
+    (implies (SaysNoNetlist bytes) (RefusesSlow bytes) stop (λ fault says. inl says) c.in_err-net.ensures.err)

@@ -1,0 +1,28 @@
+use Rattle.cs_run.proofs.AnswerLemmas.{mix_answers, mix_counts, part_answers, sim_answers, slow_answers}
+use Rattle.cs_run.proofs.commands.answer_inputs.Goals as goal
+
+pub answer_mix-requires-clause-some : goal.answer_mix-requires-clause-some
+answer_mix-requires-clause-some c =
+    (mix_counts c.args.command.now c.in-Mix.words c.args.inputs.now c.in-Mix.is c.requires.within c.requires.all).0
+
+pub answer_mix-requires-clause-most : goal.answer_mix-requires-clause-most
+answer_mix-requires-clause-most c =
+    (mix_counts c.args.command.now c.in-Mix.words c.args.inputs.now c.in-Mix.is c.requires.within c.requires.all).1
+
+pub returns-in-Slow : goal.returns-in-Slow
+returns-in-Slow c =
+    slow_answers c.args.command.now c.in-Slow.words c.args.inputs.now c.bytes_of.result.now c.answer_slow.result c.in-Slow.is c.bytes_of.ensures
+    c.answer_slow.ensures
+
+pub returns-in-Sim : goal.returns-in-Sim
+returns-in-Sim c =
+    sim_answers c.args.command.now c.in-Sim.field-0 c.args.inputs.now c.bytes_of-in-Sim.result.now c.bytes_of-in-Sim-2.result.now c.answer_sim.result
+    c.in-Sim.is c.bytes_of-in-Sim.ensures c.bytes_of-in-Sim-2.ensures c.answer_sim.ensures
+
+pub returns-in-Mix : goal.returns-in-Mix
+returns-in-Mix c = mix_answers c.args.command.now c.in-Mix.words c.args.inputs.now c.answer_mix.result c.in-Mix.is c.answer_mix.ensures
+
+pub returns-in-Part : goal.returns-in-Part
+returns-in-Part c =
+    part_answers c.args.command.now c.in-Part.words c.args.inputs.now c.bytes_of-in-Part.result.now c.answer_part.result c.in-Part.is
+    c.bytes_of-in-Part.ensures c.answer_part.ensures
