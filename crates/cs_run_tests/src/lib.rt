@@ -6,6 +6,8 @@ mod documents;
 #[cfg(test)]
 mod failing_calls;
 #[cfg(test)]
+mod in_memory;
+#[cfg(test)]
 mod multiplied;
 #[cfg(test)]
 mod refused_documents;

@@ -13,7 +13,8 @@ pub(crate) fn store_of<R: AllocGlobal + Abort>(rt: &R, files: &[(&str, &str)]) -
     store
 }
 
-fn words_of<R: AllocGlobal + Abort>(rt: &R, text: &str) -> Vec<String> {
+/// The words of a line.
+pub(crate) fn words_of<R: AllocGlobal + Abort>(rt: &R, text: &str) -> Vec<String> {
     let mut words = Vec::new(rt.alloc());
     for word in text.split_whitespace() {
         let word = String::from_str(rt.alloc(), word).expect(rt, "a word");
