@@ -1,7 +1,7 @@
 -- The line of each fault.
 use Rattle.std.specs.Prelude.{ℕ, List, [], ◌∷◌, ◌++◌, codes, decimal}
 use Rattle.cs_report.specs.declared.fault.Fault.{Fault}
-use Rattle.cs_report.specs.declared.fault.Fault.TheVariants.{NoMemory, NoCommand, WordsOf, CannotRead, CannotWrite, DocumentNotJson, DocumentShape, Refused, Limit, FileTooLong, StimulusWidth, StimulusCharacter, StimulusUneven, NotBuilt, NotBuiltCell}
+use Rattle.cs_report.specs.declared.fault.Fault.TheVariants.{NoMemory, NoCommand, WordsOf, CannotRead, CannotWrite, DocumentNotJson, DocumentShape, Refused, Limit, FileTooLong, StimulusWidth, StimulusCharacter, StimulusUneven, CertificateNotJson, CertificateShape, NotBuilt, NotBuiltCell}
 use Rattle.cs_report.specs.Limits.{limit_words}
 use Rattle.cs_report.specs.Refused.{refused_words}
 use Rattle.cs_report.specs.Words.{quoted}
@@ -36,6 +36,8 @@ fault_words (FileTooLong name) = too_long name
 fault_words (StimulusWidth line) = line_width line
 fault_words (StimulusCharacter line column) = line_column line column
 fault_words (StimulusUneven stream) = uneven stream
+fault_words CertificateNotJson = codes "certificate: not json"
+fault_words (CertificateShape place) = codes "certificate: bad shape at " ++ place.path
 fault_words NotBuilt = codes "not built"
 fault_words (NotBuiltCell name) = codes "not built: " ++ quoted name
 

@@ -39,6 +39,10 @@ pub enum Fault {
     StimulusCharacter { line: u64, column: u64 },
     /// This stream of those that are mixed, from 0, has another number of lines than its place asks for.
     StimulusUneven(u32),
+    /// A paper's bytes are no JSON.
+    CertificateNotJson,
+    /// A paper is refused at this place.
+    CertificateShape(Place),
     /// The netlist is in no form that is handled yet.
     NotBuilt,
     /// This cell of the netlist isn't handled yet.
@@ -116,6 +120,10 @@ fn fault_words(alloc: Global, fault: &Fault) -> Result<Text, AllocError>
         Fault::StimulusWidth { line } => line_width(alloc, *line),
         Fault::StimulusCharacter { line, column } => line_column(alloc, *line, *column),
         Fault::StimulusUneven(stream) => uneven(alloc, *stream),
+        Fault::CertificateNotJson => Text::from_str(alloc, "certificate: not json"),
+        Fault::CertificateShape(place) => {
+            text_after(alloc, "certificate: bad shape at ", place.path.as_str())
+        }
         Fault::NotBuilt => Text::from_str(alloc, "not built"),
         Fault::NotBuiltCell(name) => quoted_after(alloc, "not built: ", name.as_str()),
     }

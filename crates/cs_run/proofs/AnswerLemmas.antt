@@ -3,15 +3,16 @@ use Rattle.std.proofs.Common.{◌≡◌, ◌≤◌, ◌∙◌, ℕ, List, [], �
 use Rattle.std.specs.Prelude.{Err, Ok, Result, ⊤}
 use Rattle.cs_report.specs.declared.fault.Fault.{Fault}
 use Rattle.cs_words.specs.declared.command.Command.{Command}
-use Rattle.cs_words.specs.declared.command.Command.TheVariants.{Slow, Sim, Mix, Part}
+use Rattle.cs_words.specs.declared.command.Command.TheVariants.{Slow, Sim, Mix, Part, Upgrade}
 use Rattle.cs_words.specs.declared.command.MixWords.{MixWords}
 use Rattle.cs_words.specs.declared.command.PartWords.{PartWords}
 use Rattle.cs_words.specs.declared.command.SimWords.{SimWords}
 use Rattle.cs_words.specs.declared.command.SlowWords.{SlowWords}
+use Rattle.cs_words.specs.declared.command.UpgradeWords.{UpgradeWords}
 use Rattle.cs_words.specs.Commands.{IsWithin}
 use Rattle.cs_run.specs.declared.inputs.Input.{Input}
 use Rattle.cs_run.specs.declared.inputs.Role.{Role}
-use Rattle.cs_run.specs.declared.inputs.Role.TheVariants.{File, In, Net, Stim, Stream}
+use Rattle.cs_run.specs.declared.inputs.Role.TheVariants.{File, In, Net, Paper, Stim, Stream}
 use Rattle.cs_run.specs.declared.reply.Reply.{Reply}
 use Rattle.cs_run.specs.declared.stop.Stop.{Stop}
 use Rattle.cs_run.specs.Commands.{Makes, MakesRight, Refuses, reads_of}
@@ -21,6 +22,7 @@ use Rattle.cs_run.specs.Part.{AnswersPart}
 use Rattle.cs_run.specs.Reasons.{Answers}
 use Rattle.cs_run.specs.Sim.{AnswersSim}
 use Rattle.cs_run.specs.Slow.{AnswersSlow}
+use Rattle.cs_run.specs.Upgrade.{AnswersUpgrade}
 
 -- a command's function answers its inputs as all commands do
 abbrev pub AnswersInputs : Command → List Input → Result Reply Stop → Type 0
@@ -54,6 +56,11 @@ pub part_answers : (command : Command) (words : PartWords) (inputs : List Input)
     bytes ≡ bytes_of File inputs → AnswersPart words bytes result → AnswersInputs command inputs result
 part_answers command words inputs bytes result is read answers =
     of_variant command (Part words) inputs result is (plain _ _ result (subst (λ b. AnswersPart words b result) read answers))
+
+pub upgrade_answers : (command : Command) (words : UpgradeWords) (inputs : List Input) (bytes : List ℕ) (result : Result Reply Stop) →
+    command ≡ Upgrade words → bytes ≡ bytes_of Paper inputs → AnswersUpgrade words bytes result → AnswersInputs command inputs result
+upgrade_answers command words inputs bytes result is read answers =
+    of_variant command (Upgrade words) inputs result is (subst (λ b. AnswersUpgrade words b result) read answers)
 
 -- ---- the number of streams
 

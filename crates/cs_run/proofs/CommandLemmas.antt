@@ -4,9 +4,9 @@ use Rattle.std.specs.Prelude.{IsSome}
 use Rattle.cs_io.specs.Stores.{Files}
 use Rattle.cs_report.specs.declared.fault.Fault.{Fault}
 use Rattle.cs_words.specs.declared.command.Command.{Command}
-use Rattle.cs_words.specs.declared.command.Command.TheVariants.{Slow, Sim, Mix, Part}
+use Rattle.cs_words.specs.declared.command.Command.TheVariants.{Slow, Sim, Mix, Part, Upgrade}
 use Rattle.cs_run.specs.declared.inputs.Input.{Input}
-use Rattle.cs_run.specs.declared.inputs.Role.TheVariants.{File, In, Net, Stim}
+use Rattle.cs_run.specs.declared.inputs.Role.TheVariants.{File, In, Net, Paper, Stim}
 use Rattle.cs_run.specs.declared.reply.Reply.{Reply}
 use Rattle.cs_run.specs.declared.status.Status.TheVariants.{Done}
 use Rattle.cs_run.specs.Commands.{HasInputs, HasReason, Makes, Refuses, reads_of, writes_of}
@@ -18,6 +18,7 @@ use Rattle.cs_run.proofs.MixLemmas.{mix_apart, mix_names, mix_status}
 use Rattle.cs_run.proofs.PartLemmas.{part_apart, part_names, part_status}
 use Rattle.cs_run.proofs.SimLemmas.{sim_apart, sim_names, sim_status}
 use Rattle.cs_run.proofs.SlowLemmas.{slow_apart, slow_names, slow_status}
+use Rattle.cs_run.proofs.UpgradeLemmas.{upgrade_apart, upgrade_names, upgrade_status}
 use Rattle.cs_run.proofs.WorldLemmas.{AreNamed}
 
 -- ---- each command
@@ -27,6 +28,7 @@ makes_done (Slow words) inputs reply makes = ap (λ (r : Reply). r.status) makes
 makes_done (Sim words) inputs reply makes = ap (λ (r : Reply). r.status) makes.is
 makes_done (Mix words) inputs reply makes = ap (λ (r : Reply). r.status) makes.is
 makes_done (Part words) inputs reply makes = ap (λ (r : Reply). r.status) makes.is
+makes_done (Upgrade words) inputs reply makes = ap (λ (r : Reply). r.status) makes.is
 
 -- a reply writes only files that the command names to be written
 pub makes_names : (command : Command) (inputs : List Input) (reply : Reply) → Makes command inputs reply → AreNamed (writes_of command) reply.writes
@@ -34,12 +36,14 @@ makes_names (Slow words) inputs reply makes = slow_names words (bytes_of In inpu
 makes_names (Sim words) inputs reply makes = sim_names (bytes_of Net inputs) (bytes_of Stim inputs) reply makes
 makes_names (Mix words) inputs reply makes = mix_names words (all_bytes inputs) reply makes
 makes_names (Part words) inputs reply makes = part_names words (bytes_of File inputs) reply makes
+makes_names (Upgrade words) inputs reply makes = upgrade_names words (bytes_of Paper inputs) reply makes
 
 apart : (command : Command) (inputs : List Input) (reply : Reply) (fault : Fault) → Makes command inputs reply → Refuses command inputs fault → ⊥
 apart (Slow words) inputs reply fault makes refuses = slow_apart words (bytes_of In inputs) reply fault makes refuses
 apart (Sim words) inputs reply fault makes refuses = sim_apart (bytes_of Net inputs) (bytes_of Stim inputs) reply fault makes refuses
 apart (Mix words) inputs reply fault makes refuses = mix_apart words (all_bytes inputs) reply fault makes refuses
 apart (Part words) inputs reply fault makes refuses = part_apart words (bytes_of File inputs) reply fault makes refuses
+apart (Upgrade words) inputs reply fault makes refuses = upgrade_apart words (bytes_of Paper inputs) reply fault makes refuses
 
 inputs_status : (command : Command) (inputs : List Input) (a b : Reason) → Refuses command inputs a.fault → Refuses command inputs b.fault →
     status_of a.fault ≡ status_of b.fault
@@ -47,6 +51,7 @@ inputs_status (Slow words) inputs a b h k = slow_status (bytes_of In inputs) a b
 inputs_status (Sim words) inputs a b h k = sim_status (bytes_of Net inputs) (bytes_of Stim inputs) a b h k
 inputs_status (Mix words) inputs a b h k = mix_status (all_bytes inputs) a b h k
 inputs_status (Part words) inputs a b h k = part_status (bytes_of File inputs) a b h k
+inputs_status (Upgrade words) inputs a b h k = upgrade_status (bytes_of Paper inputs) a b h k
 
 -- ---- all commands
 

@@ -2,7 +2,7 @@
 use Rattle.std.proofs.Common.{◌≡◌, ◌==◌, ◌⊎◌, ◌∙◌, ◌<◌, ℕ, suc, Bool, true, false, cond, eqb-true, List, [], ◌∷◌, Contains, arith, ap, inl, inr, refl, subst, sym}
 use Rattle.std.specs.Prelude.{Ok}
 use Rattle.cs_words.specs.declared.command.Command.{Command}
-use Rattle.cs_words.specs.declared.command.Command.TheVariants.{Mix, Part, Sim, Slow}
+use Rattle.cs_words.specs.declared.command.Command.TheVariants.{Mix, Part, Sim, Slow, Upgrade}
 use Rattle.cs_words.specs.Commands.{command_of}
 use Rattle.cs_run.specs.declared.status.Status.{Status}
 use Rattle.cs_run.specs.declared.status.Status.TheVariants.{Done, NoMemory, Usage, ReadFault, WriteFault}
@@ -15,6 +15,7 @@ use Rattle.cs_run.proofs.PartLemmas.{part_done, part_unput}
 use Rattle.cs_run.proofs.PromiseLemmas.{complete, done_row, no_memory, of_command, others, read_fault, refused, refused_only, same_status, unrefused, usage, usage_only, write_fault, write_row}
 use Rattle.cs_run.proofs.SimLemmas.{sim_responded, sim_unput}
 use Rattle.cs_run.proofs.SlowLemmas.{slow_done, slow_isolates, slow_output, slow_unwritten}
+use Rattle.cs_run.proofs.UpgradeLemmas.{upgrade_done, upgrade_prints, upgrade_reads_back, upgrade_unwritten}
 
 abbrev is_in : ℕ → List ℕ → Bool
 is_in n [] = false
@@ -77,4 +78,11 @@ promises run status result is ran =
           mix_parts_back run mix streams text has (mix_done mix run.old run.new (done run status (Mix mix) ran has.says (at Done to))) holds;
       part_done = λ part says to. part_done part run.old run.new (done run status (Part part) ran says (at Done to));
       part_unput = λ part says to. part_unput part run.old run.new (undone run status (Part part) ran says (at WriteFault to));
+      upgrade_done = λ upgrade says to. upgrade_done upgrade run.old run.new (done run status (Upgrade upgrade) ran says (at Done to));
+      upgrade_unwritten = λ upgrade says to.
+          upgrade_unwritten upgrade run.old run.new (undone run status (Upgrade upgrade) ran says (at WriteFault to));
+      upgrade_prints = λ to upgrade bytes paper has says.
+          upgrade_prints run upgrade bytes paper has (upgrade_done upgrade run.old run.new (done run status (Upgrade upgrade) ran has.says (at Done to))) says;
+      upgrade_reads_back = λ to upgrade bytes text has holds.
+          upgrade_reads_back run upgrade bytes text has (upgrade_done upgrade run.old run.new (done run status (Upgrade upgrade) ran has.says (at Done to))) holds;
     }

@@ -9,6 +9,7 @@ pub mod SlowLemmas
 pub mod SimLemmas
 pub mod MixLemmas
 pub mod PartLemmas
+pub mod UpgradeLemmas
 pub mod CommandLemmas
 pub mod AnswerLemmas
 pub mod RunLemmas

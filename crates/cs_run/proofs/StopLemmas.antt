@@ -29,7 +29,7 @@ use Rattle.cs_run.specs.Statuses.{is_of_files, net_status, status_of}
 -- ---- all stops
 
 -- a fault that is a reason, where it isn't want of memory
-stops : (P : Fault → Type 0) (fault : Fault) (stop : Stop) → StopsAt fault stop →
+pub stops : (P : Fault → Type 0) (fault : Fault) (stop : Stop) → StopsAt fault stop →
     (status_of fault ≢ NoMemory → P fault × IsTrue (is_of_files (status_of fault))) → StopsFor P stop
 stops P fault OutOfMemory at has = tt
 stops P fault (Refused refusal) at has =

@@ -6,16 +6,17 @@ use Rattle.cs_io.specs.Stores.{Files}
 use Rattle.cs_report.specs.declared.fault.Fault.{Fault}
 use Rattle.cs_report.specs.declared.fault.Fault.TheVariants.{FileTooLong}
 use Rattle.cs_words.specs.declared.command.Command.{Command}
-use Rattle.cs_words.specs.declared.command.Command.TheVariants.{Slow, Sim, Mix, Part}
+use Rattle.cs_words.specs.declared.command.Command.TheVariants.{Slow, Sim, Mix, Part, Upgrade}
 use Rattle.cs_run.specs.declared.inputs.FileName.{FileName}
 use Rattle.cs_run.specs.declared.inputs.Input.{Input}
-use Rattle.cs_run.specs.declared.inputs.Role.TheVariants.{File, In, Net, Stim}
+use Rattle.cs_run.specs.declared.inputs.Role.TheVariants.{File, In, Net, Paper, Stim}
 use Rattle.cs_run.specs.declared.reply.Reply.{Reply}
 use Rattle.cs_run.specs.Inputs.{FilesHave, FirstTooLong, all_bytes, bytes_of}
 use Rattle.cs_run.specs.Slow.{BuildsIsolate, MakesSlow, RefusesSlow, slow_reads}
 use Rattle.cs_run.specs.Sim.{MakesSim, RefusesSim, sim_reads}
 use Rattle.cs_run.specs.Mix.{MakesMix, MixesGiveBack, RefusesMix, mix_reads}
 use Rattle.cs_run.specs.Part.{MakesPart, RefusesPart, part_reads}
+use Rattle.cs_run.specs.Upgrade.{MakesUpgrade, RefusesUpgrade, UpgradesAlike, upgrade_reads}
 
 -- ---- each command
 
@@ -25,6 +26,7 @@ reads_of (Slow words) = slow_reads words
 reads_of (Sim words) = sim_reads words
 reads_of (Mix words) = mix_reads words
 reads_of (Part words) = part_reads words
+reads_of (Upgrade words) = upgrade_reads words
 
 -- the names of the files that a command may write
 abbrev pub writes_of : Command → List (List ℕ)
@@ -32,6 +34,7 @@ writes_of (Slow words) = words.output ∷ []
 writes_of (Sim words) = []
 writes_of (Mix words) = words.output ∷ []
 writes_of (Part words) = []
+writes_of (Upgrade words) = words.new ∷ []
 
 -- a command answers its inputs with this reply
 abbrev pub Makes : Command → List Input → Reply → Type 0
@@ -39,6 +42,7 @@ Makes (Slow words) inputs reply = MakesSlow words (bytes_of In inputs) reply
 Makes (Sim words) inputs reply = MakesSim (bytes_of Net inputs) (bytes_of Stim inputs) reply
 Makes (Mix words) inputs reply = MakesMix words (all_bytes inputs) reply
 Makes (Part words) inputs reply = MakesPart words (bytes_of File inputs) reply
+Makes (Upgrade words) inputs reply = MakesUpgrade words (bytes_of Paper inputs) reply
 
 -- whatever the command makes of these inputs is right
 abbrev pub MakesRight : Command → List Input → Type 0
@@ -46,6 +50,7 @@ MakesRight (Slow words) inputs = BuildsIsolate words.contexts (bytes_of In input
 MakesRight (Sim words) inputs = ⊤
 MakesRight (Mix words) inputs = MixesGiveBack (all_bytes inputs)
 MakesRight (Part words) inputs = ⊤
+MakesRight (Upgrade words) inputs = UpgradesAlike (bytes_of Paper inputs)
 
 -- a command is refused because its inputs have this fault
 abbrev pub Refuses : Command → List Input → Fault → Type 0
@@ -53,6 +58,7 @@ Refuses (Slow words) inputs fault = RefusesSlow (bytes_of In inputs) fault
 Refuses (Sim words) inputs fault = RefusesSim (bytes_of Net inputs) (bytes_of Stim inputs) fault
 Refuses (Mix words) inputs fault = RefusesMix (all_bytes inputs) fault
 Refuses (Part words) inputs fault = RefusesPart (bytes_of File inputs) fault
+Refuses (Upgrade words) inputs fault = RefusesUpgrade (bytes_of Paper inputs) fault
 
 -- ---- all commands
 

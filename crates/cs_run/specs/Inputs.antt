@@ -3,7 +3,7 @@ use Rattle.std.specs.Prelude.{ℕ, ◌<◌, ◌≤◌, ◌≡◌, ◌==◌, ◌�
 use Rattle.std.specs.FinMap as map
 use Rattle.cs_io.specs.Stores.{Files, FileHas}
 use Rattle.cs_run.specs.declared.inputs.Role.{Role}
-use Rattle.cs_run.specs.declared.inputs.Role.TheVariants.{In, Net, Stim, Stream, File}
+use Rattle.cs_run.specs.declared.inputs.Role.TheVariants.{In, Net, Stim, Stream, File, Paper}
 use Rattle.cs_run.specs.declared.inputs.FileName.{FileName}
 use Rattle.cs_run.specs.declared.inputs.Input.{Input}
 
@@ -15,6 +15,7 @@ number_of Net = 1
 number_of Stim = 2
 number_of Stream = 3
 number_of File = 4
+number_of Paper = 5
 
 -- the file of a role
 abbrev pub file : Role → List ℕ → FileName

@@ -9,6 +9,7 @@ pub mod Slow
 pub mod Sim
 pub mod Mix
 pub mod Part
+pub mod Upgrade
 pub mod Commands
 pub mod Runs
 pub mod Promises

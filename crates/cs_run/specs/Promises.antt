@@ -1,15 +1,19 @@
 -- The promises of a run: its contract.
 use Rattle.std.specs.Prelude.{ℕ, ◌≡◌, ◌⊎◌, List, [], Option, Ok, Err, Result, Some, IsSome, IsTrue, Contains}
+use Rattle.cs_cert.specs.declared.paper.Paper.{Paper}
+use Rattle.cs_cert.specs.PaperShape.{Says, paper_of}
+use Rattle.cs_cert.specs.Papers.{printed}
 use Rattle.cs_io.specs.Faults.{Rose}
 use Rattle.cs_io.specs.Stores.{Files}
 use Rattle.cs_report.specs.declared.fault.Fault.TheVariants.{CannotRead}
 use Rattle.cs_report.specs.FaultLines.{fault_line}
 use Rattle.cs_words.specs.declared.command.Command.{Command}
-use Rattle.cs_words.specs.declared.command.Command.TheVariants.{Mix, Part, Sim, Slow}
+use Rattle.cs_words.specs.declared.command.Command.TheVariants.{Mix, Part, Sim, Slow, Upgrade}
 use Rattle.cs_words.specs.declared.command.MixWords.{MixWords}
 use Rattle.cs_words.specs.declared.command.PartWords.{PartWords}
 use Rattle.cs_words.specs.declared.command.SimWords.{SimWords}
 use Rattle.cs_words.specs.declared.command.SlowWords.{SlowWords}
+use Rattle.cs_words.specs.declared.command.UpgradeWords.{UpgradeWords}
 use Rattle.cs_words.specs.declared.read.WordError.{WordError}
 use Rattle.cs_words.specs.Commands.{command_of}
 use Rattle.cs_run.specs.declared.inputs.FileName.{FileName}
@@ -24,6 +28,7 @@ use Rattle.cs_run.specs.Runs.{FailsReading, HasAnswer, RanOutOfMemory, Run, word
 use Rattle.cs_run.specs.Sim.{CouldNotRespond, HasResponded}
 use Rattle.cs_run.specs.Slow.{CouldNotWriteOut, HasWritten, IsBuilt}
 use Rattle.cs_run.specs.Statuses.{all_codes, code_of, is_of_files, status_of}
+use Rattle.cs_run.specs.Upgrade.{CouldNotWriteNew, HasUpgraded}
 use Rattle.cs_run.specs.Worlds.{PutsSome, StopsAtPut, StopsAtWrite, World, after_writes, file_in}
 
 -- ---- names
@@ -102,6 +107,11 @@ pub record HasStreams (run : Run) (mix : MixWords) (streams : List (List ℕ)) :
   pub told : IsSome run.old.store.files
   pub have : StreamsHave run.old.store.files mix.streams streams
 
+-- the words are those of `upgrade`, and the store tells that its OLD has these bytes
+pub record HasOld (run : Run) (upgrade : UpgradeWords) (bytes : List ℕ) : Type 0 where
+  pub says : command_of run.words ≡ Ok (Upgrade upgrade)
+  pub file : file_in run.old.store.files upgrade.old ≡ Some (Some bytes)
+
 -- ---- the contract
 
 -- what a run that answers this number promises
@@ -148,3 +158,10 @@ pub record Promises (run : Run) (result : ℕ) : Type 0 where
   -- `part` at status 0: the printed rows of one context are put
   pub part_done : (part : PartWords) → command_of run.words ≡ Ok (Part part) → result ≡ 0 → HasParted part run.old run.new
   pub part_unput : (part : PartWords) → command_of run.words ≡ Ok (Part part) → result ≡ 4 → CouldNotPutPart part run.old run.new
+  -- `upgrade` at status 0: NEW holds the printed text, of version 2, of the paper that OLD held at entry, and says that paper
+  pub upgrade_done : (upgrade : UpgradeWords) → command_of run.words ≡ Ok (Upgrade upgrade) → result ≡ 0 → HasUpgraded upgrade run.old run.new
+  pub upgrade_unwritten : (upgrade : UpgradeWords) → command_of run.words ≡ Ok (Upgrade upgrade) → result ≡ 4 → CouldNotWriteNew upgrade run.old run.new
+  pub upgrade_prints : result ≡ 0 → (upgrade : UpgradeWords) (bytes : List ℕ) (paper : Paper) → HasOld run upgrade bytes
+      → paper_of bytes ≡ Says paper → file_in run.new.store.files upgrade.new ≡ Some (Some (printed paper))
+  pub upgrade_reads_back : result ≡ 0 → (upgrade : UpgradeWords) (bytes text : List ℕ) → HasOld run upgrade bytes
+      → file_in run.new.store.files upgrade.new ≡ Some (Some text) → paper_of text ≡ paper_of bytes

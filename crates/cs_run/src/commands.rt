@@ -16,6 +16,7 @@ use crate::simulation::answer_sim;
 use crate::slow::answer_slow;
 use crate::status::Status;
 use crate::stop::Stop;
+use crate::upgrading::answer_upgrade;
 use cs_base::{Sequence, Text};
 use cs_io::{Sink, Store};
 use cs_words::Command;
@@ -33,6 +34,7 @@ fn reads_of(alloc: Global, command: &Command) -> Result<Sequence<FileName>, Allo
         },
         Command::Mix(words) => files_of(alloc, Role::Stream, words.streams.as_slice()),
         Command::Part(words) => one_file(alloc, Role::File, &words.file),
+        Command::Upgrade(words) => one_file(alloc, Role::Paper, &words.old),
     }
 }
 
@@ -53,6 +55,7 @@ fn answer_inputs(alloc: Global, command: &Command, inputs: &[Input]) -> Result<R
         ),
         Command::Mix(words) => answer_mix(alloc, words, inputs),
         Command::Part(words) => answer_part(alloc, words, bytes_of(Role::File, inputs)),
+        Command::Upgrade(words) => answer_upgrade(alloc, words, bytes_of(Role::Paper, inputs)),
     }
 }
 

@@ -23,6 +23,8 @@ pub enum Role {
     /// One of the streams that are mixed.
     Stream,
     File,
+    /// The paper that is read.
+    Paper,
 }
 
 impl Role {

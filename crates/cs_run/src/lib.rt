@@ -16,6 +16,7 @@ mod simulation;
 mod slow;
 mod status;
 mod stop;
+mod upgrading;
 
 pub use commands::{answer_command, run_command};
 pub use finish::{carry_out, put_stop};
@@ -31,3 +32,4 @@ pub use simulation::answer_sim;
 pub use slow::answer_slow;
 pub use status::{Status, status_of};
 pub use stop::{Stop, built_fault, rows_fault, stop_at};
+pub use upgrading::answer_upgrade;

@@ -1,17 +1,14 @@
 // The command `mix`.
 ghost use Rattle.std.specs.Prelude.{◌≡◌, ◌⊎◌, ◌≤◌, IfErr, IfOk, Some, length};
-ghost use Rattle.cs_report.specs.declared.fault.Fault.TheVariants.{CannotWrite};
-ghost use Rattle.cs_report.specs.FaultLines.{fault_line};
 ghost use Rattle.cs_stream.specs.declared.error.StimError.TheVariants.{NoMemory};
 ghost use Rattle.cs_run.specs.Inputs.{AreFew, all_bytes};
 ghost use Rattle.cs_run.specs.Mix.{AnswersMix, IsMixOf, MakesMix, MixesGiveBack, first_width, mix_fault, stream_fault};
 ghost use Rattle.cs_run.specs.Rows.{AreRowsOfStreams};
 
 use crate::inputs::Input;
-use crate::reply::{Reply, writing};
+use crate::reply::{Reply, unwritten_line, writing};
 use crate::stop::{Stop, rows_fault, stop_at};
-use cs_base::{Sequence, Text};
-use cs_report::{Fault, fault_text};
+use cs_base::Sequence;
 use cs_stream::{
     StimError, Stimulus, mix, print_response, printed_reads_back, read_stimulus, width_of,
 };
@@ -82,12 +79,4 @@ fn write_mixed(
     let text = print_response(alloc, rows)?;
     let line = unwritten_line(alloc, &words.output)?;
     writing(alloc, &words.output, text, line)
-}
-
-// The line of a failed write.
-fn unwritten_line(alloc: Global, name: &Text) -> Result<Vec<u8>, AllocError>
-    ensures { IfOk result (λ line. line.items ≡ fault_line (CannotWrite name.now)) }
-{
-    let fault = Fault::CannotWrite(name.copy(alloc)?);
-    fault_text(alloc, &fault)
 }

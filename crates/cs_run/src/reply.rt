@@ -1,5 +1,7 @@
 // What a run is to write, put and answer once its files are read.
 ghost use Rattle.std.specs.Prelude.{◌≡◌, IfOk};
+ghost use Rattle.cs_report.specs.declared.fault.Fault.TheVariants.{CannotWrite};
+ghost use Rattle.cs_report.specs.FaultLines.{fault_line};
 ghost use Rattle.cs_run.specs.Replies.{putting, refusal_for, writing};
 
 use crate::status::{Status, status_of};
@@ -75,4 +77,12 @@ pub fn writing(
         writes,
         texts: Sequence::new(alloc),
     })
+}
+
+/// The line of a failed write of the file of this name.
+pub(crate) fn unwritten_line(alloc: Global, name: &Text) -> Result<Vec<u8>, AllocError>
+    ensures { IfOk result (λ line. line.items ≡ fault_line (CannotWrite name.now)) }
+{
+    let fault = Fault::CannotWrite(name.copy(alloc)?);
+    fault_text(alloc, &fault)
 }

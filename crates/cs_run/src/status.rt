@@ -17,6 +17,7 @@ pub enum Status {
     NetlistFault = 6,
     Limit = 8,
     StimulusFault = 11,
+    CertificateFault = 12,
     NotBuilt = 99,
 }
 
@@ -55,6 +56,7 @@ pub fn status_of(fault: &Fault) -> Status
         Fault::Limit(_) | Fault::FileTooLong(_) => Status::Limit,
         Fault::StimulusWidth { .. } | Fault::StimulusCharacter { .. } | Fault::StimulusUneven(_) =>
             Status::StimulusFault,
+        Fault::CertificateNotJson | Fault::CertificateShape(_) => Status::CertificateFault,
         Fault::NotBuilt | Fault::NotBuiltCell(_) => Status::NotBuilt,
     }
 }

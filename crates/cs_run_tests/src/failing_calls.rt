@@ -1,6 +1,7 @@
 // Runs in which a call of the store or of the sink fails, and files that are too long.
 use crate::documents::REGISTER;
 use crate::running::{assert_run, status_of, store_of};
+use crate::upgraded::OLD_PAPER;
 use cs_io::MemSink;
 
 // The call of the store and the put that fail are told by their numbers, from 1; number 0 never comes. A write and a put
@@ -51,8 +52,24 @@ fn a_call_fails(rt: HostRuntime) {
             Some("0"),
         ),
         ("part 1 2 rows", (0, 0), (1, 1), 4, "1", None),
+        (
+            "upgrade paper out",
+            (2, 5),
+            (0, 0),
+            4,
+            "cannot write out\n",
+            Some("{\"con"),
+        ),
     ] {
-        let mut store = store_of(&rt, &[("net", REGISTER), ("rows", "0\n1\n"), ("empty", "")]);
+        let mut store = store_of(
+            &rt,
+            &[
+                ("net", REGISTER),
+                ("rows", "0\n1\n"),
+                ("empty", ""),
+                ("paper", OLD_PAPER),
+            ],
+        );
         let mut out = MemSink::new(rt.alloc());
         assert!(rt; store.fail_at(call.0, call.1).is_ok());
         assert!(rt; out.fail_at(put.0, put.1).is_ok());

@@ -18,4 +18,6 @@ mod simulated;
 #[cfg(test)]
 mod streams;
 #[cfg(test)]
+mod upgraded;
+#[cfg(test)]
 mod written;

@@ -5,7 +5,7 @@ use Rattle.std.specs.Str.{bytes_eq}
 use Rattle.std.specs.Option.{option_map}
 use Rattle.std.specs.declared.alloc.Global.{Global}
 use Rattle.cs_words.specs.declared.command.Command.{Command}
-use Rattle.cs_words.specs.declared.command.Command.TheVariants.{Slow, Sim, Mix, Part}
+use Rattle.cs_words.specs.declared.command.Command.TheVariants.{Slow, Sim, Mix, Part, Upgrade}
 use Rattle.cs_words.specs.declared.read.WordError.{WordError}
 use Rattle.cs_words.specs.declared.read.WordError.TheVariants.{NoCommand, BadWords, NoMemory}
 use Rattle.cs_words.specs.Numbers.{contexts_of, context_of}
@@ -50,6 +50,10 @@ abbrev pub part_of : List (List ℕ) → Option Command
 part_of (place ∷ count ∷ file ∷ []) = option_and_then (λ contexts. part_in contexts place file) (contexts_of count)
 part_of _ = None
 
+abbrev pub upgrade_of : List (List ℕ) → Option Command
+upgrade_of (old ∷ new ∷ []) = Some (Upgrade (record { old = old; new = new }))
+upgrade_of _ = None
+
 -- ---- all words
 
 -- the command that is said behind its name, or that the words have another form
@@ -65,7 +69,8 @@ command_of (name ∷ words) =
     else (if bytes_eq name (codes "sim") then said_by name (sim_of words)
     else (if bytes_eq name (codes "mix") then said_by name (mix_of words)
     else (if bytes_eq name (codes "part") then said_by name (part_of words)
-    else Err NoCommand)))
+    else (if bytes_eq name (codes "upgrade") then said_by name (upgrade_of words)
+    else Err NoCommand))))
 
 -- what reading the words answers: just what they say, unless memory ran out
 abbrev pub Reads : Result Command WordError → Result Command WordError → Type 0
@@ -80,3 +85,4 @@ IsWithin (Slow words) = ⊤
 IsWithin (Sim words) = ⊤
 IsWithin (Mix words) = (1 ≤ length words.streams) × (length words.streams ≤ 16)
 IsWithin (Part words) = words.k < words.contexts
+IsWithin (Upgrade words) = ⊤

@@ -8,6 +8,7 @@ pub enum Command {
     Sim(SimWords),
     Mix(MixWords),
     Part(PartWords),
+    Upgrade(UpgradeWords),
 }
 
 /// `slow IN OUT CERT DELAYS -c C`
@@ -40,4 +41,11 @@ pub struct PartWords {
     pub k: u32,
     pub contexts: Contexts,
     pub file: Text,
+}
+
+/// `upgrade OLD NEW`, which may be one name
+#[derive(Debug, Drop)]
+pub struct UpgradeWords {
+    pub old: Text,
+    pub new: Text,
 }

@@ -1,8 +1,8 @@
 // The form of each command's words behind its name.
 ghost use Rattle.std.specs.Prelude.{◌≡◌, IfOk, IfSome};
-ghost use Rattle.cs_words.specs.Commands.{are_of_slow, texts, slow_of, sim_of, mix_of, part_of, IsWithin};
+ghost use Rattle.cs_words.specs.Commands.{are_of_slow, texts, slow_of, sim_of, mix_of, part_of, upgrade_of, IsWithin};
 
-use crate::command::{Command, MixWords, PartWords, SimWords, SlowWords};
+use crate::command::{Command, MixWords, PartWords, SimWords, SlowWords, UpgradeWords};
 use crate::number::{read_context, read_contexts};
 use cs_base::{Contexts, Sequence, Text};
 use std::alloc::{AllocError, Global};
@@ -120,4 +120,17 @@ pub(crate) fn read_part(alloc: Global, words: &[String]) -> Result<Option<Comman
     };
     let file = Text::from_str(alloc, file.as_str())?;
     Ok(Some(Command::Part(PartWords { k, contexts, file })))
+}
+
+/// `OLD NEW`
+pub(crate) fn read_upgrade(alloc: Global, words: &[String]) -> Result<Option<Command>, AllocError>
+    ensures said { IfOk result (λ said. said ≡ upgrade_of (texts words.now)) }
+    ensures within { IfOk result (λ said. IfSome said IsWithin) }
+{
+    let [old, new] = words else {
+        return Ok(None);
+    };
+    let old = Text::from_str(alloc, old.as_str())?;
+    let new = Text::from_str(alloc, new.as_str())?;
+    Ok(Some(Command::Upgrade(UpgradeWords { old, new })))
 }

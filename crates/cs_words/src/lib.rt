@@ -6,5 +6,5 @@ mod forms;
 mod number;
 mod read;
 
-pub use command::{Command, MixWords, PartWords, SimWords, SlowWords};
+pub use command::{Command, MixWords, PartWords, SimWords, SlowWords, UpgradeWords};
 pub use read::{WordError, read_words};

@@ -6,7 +6,7 @@ ghost use Rattle.cs_words.specs.Commands.{texts, command_of, said_by, IsWithin, 
 ghost use Rattle.cs_words.specs.declared.read.WordError.TheVariants.{BadWords, NoMemory};
 
 use crate::command::Command;
-use crate::forms::{read_mix, read_part, read_sim, read_slow};
+use crate::forms::{read_mix, read_part, read_sim, read_slow, read_upgrade};
 use cs_base::Text;
 use std::alloc::{AllocError, Global};
 
@@ -28,10 +28,11 @@ impl From<AllocError> for WordError {
     }
 }
 
-/// The command that the words say. `NoCommand` comes exactly where the first word names none of `slow`, `sim`, `mix` and
-/// `part`, or there is none. `BadWords` comes exactly where it names one and the others are not
+/// The command that the words say. `NoCommand` comes exactly where the first word names none of `slow`, `sim`, `mix`, `part`
+/// and `upgrade`, or there is none. `BadWords` comes exactly where it names one and the others are not
 /// `IN OUT CERT DELAYS -c C` of `slow`, with different words OUT and CERT and C from 1 to 16; `NET STIM` of `sim`;
-/// `OUT STREAMS` of `mix`, with 1 to 16 streams; or `K C FILE` of `part`, with C from 1 to 16 and K below C.
+/// `OUT STREAMS` of `mix`, with 1 to 16 streams; `K C FILE` of `part`, with C from 1 to 16 and K below C; or `OLD NEW` of
+/// `upgrade`.
 /// A number is 1 to 20 decimal digits.
 pub fn read_words(alloc: Global, words: &[String]) -> Result<Command, WordError>
     ensures said { Reads (command_of (texts words.now)) result }
@@ -59,6 +60,9 @@ fn read_command(alloc: Global, name: &str, others: &[String]) -> Result<Command,
     }
     if name == "part" {
         return said_by(alloc, name, read_part(alloc, others));
+    }
+    if name == "upgrade" {
+        return said_by(alloc, name, read_upgrade(alloc, others));
     }
     Err(WordError::NoCommand)
 }

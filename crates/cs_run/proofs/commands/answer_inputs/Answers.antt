@@ -1,4 +1,4 @@
-use Rattle.cs_run.proofs.AnswerLemmas.{mix_answers, mix_counts, part_answers, sim_answers, slow_answers}
+use Rattle.cs_run.proofs.AnswerLemmas.{mix_answers, mix_counts, part_answers, sim_answers, slow_answers, upgrade_answers}
 use Rattle.cs_run.proofs.commands.answer_inputs.Goals as goal
 
 pub answer_mix-requires-clause-some : goal.answer_mix-requires-clause-some
@@ -26,3 +26,8 @@ pub returns-in-Part : goal.returns-in-Part
 returns-in-Part c =
     part_answers c.args.command.now c.in-Part.words c.args.inputs.now c.bytes_of-in-Part.result.now c.answer_part.result c.in-Part.is
     c.bytes_of-in-Part.ensures c.answer_part.ensures
+
+pub returns-in-Upgrade : goal.returns-in-Upgrade
+returns-in-Upgrade c =
+    upgrade_answers c.args.command.now c.in-Upgrade.words c.args.inputs.now c.bytes_of-in-Upgrade.result.now c.answer_upgrade.result c.in-Upgrade.is
+    c.bytes_of-in-Upgrade.ensures c.answer_upgrade.ensures
