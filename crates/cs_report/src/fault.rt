@@ -6,8 +6,8 @@ ghost use Rattle.cs_report.specs.Limits.{counted_words, limit_words};
 use crate::refused::refused_text;
 use crate::words::{quoted_after, text_after};
 use cs_base::{Counted, LimitFault, Text};
-use cs_json::Place;
 use cs_conditions::NetError;
+use cs_json::Place;
 use std::alloc::{AllocError, Global};
 
 /// What a refused run tells.

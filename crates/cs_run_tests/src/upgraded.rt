@@ -2,12 +2,15 @@
 use crate::running::{assert_run, store_of};
 
 /// The certificate of an inverter in three contexts, of version 1.
-pub(crate) const OLD_PAPER: &str = r#"{"contents":["",""],"contexts":3,"cycle":[{"edges":[],"from":3,"kind":"path"}],"kind":"certificate","lags":[0,0,0,0],"mode":"any","period":2,"version":1}"#;
+pub(crate) const OLD_PAPER: &str =
+    r#"{"contents":["",""],"contexts":3,"cycle":[{"edges":[],"from":3,"kind":"path"}],"kind":"certificate","lags":[0,0,0,0],"mode":"any","period":2,"version":1}"#;
 
-const NEW_PAPER: &str = r#"{"contents":["",""],"contexts":3,"cycle":[{"edges":[],"from":3,"kind":"path"}],"kind":"certificate","lags":[0,0,0,0],"mode":"any","period":2,"table":1,"version":2}
+const NEW_PAPER: &str =
+    r#"{"contents":["",""],"contexts":3,"cycle":[{"edges":[],"from":3,"kind":"path"}],"kind":"certificate","lags":[0,0,0,0],"mode":"any","period":2,"table":1,"version":2}
 "#;
 
-const LATER_PAPER: &str = r#"{"contents":["",""],"contexts":3,"cycle":[{"edges":[],"from":3,"kind":"path"}],"kind":"certificate","lags":[0,0,0,0],"mode":"any","period":2,"table":1,"version":3}"#;
+const LATER_PAPER: &str =
+    r#"{"contents":["",""],"contexts":3,"cycle":[{"edges":[],"from":3,"kind":"path"}],"kind":"certificate","lags":[0,0,0,0],"mode":"any","period":2,"table":1,"version":3}"#;
 
 // The last two rows read and write one file: first that of version 1, then the text that was made of it.
 #[test]
@@ -39,6 +42,9 @@ fn papers(rt: HostRuntime) {
         ("upgrade old old", 0, "", "old", Some(NEW_PAPER)),
     ] {
         assert_run(&rt, &mut store, words, status, text);
-        assert!(rt; store.file(name) == holds.map(|text| text.as_bytes()), "{words}");
+        assert!(rt;
+            store.file(name) == holds.map(|text| text.as_bytes()),
+            "{words}"
+        );
     }
 }
