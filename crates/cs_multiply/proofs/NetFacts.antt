@@ -21,6 +21,7 @@ use Rattle.cs_net.specs.declared.netlist.Cell.{Cell}
 use Rattle.cs_modules.specs.declared.clocks.Clock.{Clock}
 use Rattle.cs_net.specs.declared.netlist.Port.{Port}
 use Rattle.cs_net.specs.Netlist.{Net}
+use Rattle.cs_net.specs.declared.state.MemoryWords.{MemoryWords}
 use Rattle.cs_modules.specs.Signals.{is_bit, is_input, is_output, number_in, is_bit_of}
 use Rattle.cs_net.specs.Drivers.{signal_of, data_outputs, memory_read_starts}
 use Rattle.cs_modules.specs.Pins.{Widths, class_at, count_from, gate_widths, register_widths, has_pins, has_sizes, widths_of, has_right_pins}
@@ -32,6 +33,7 @@ use Rattle.cs_net.specs.Build.{net_of, port_of, cell_of}
 use Rattle.cs_net.specs.Invariant.{HasBitOrder, IsWellFormed}
 use Rattle.std.proofs.lemmas.List.{length-map}
 use Rattle.cs_net.proofs.Members.{append_all}
+use Rattle.cs_net.proofs.OtherWords.{order_with}
 use Rattle.cs_net.proofs.PinLemmas.{same_port_bits}
 use Rattle.cs_net.proofs.PlainNets.{output_of}
 use Rattle.cs_multiply.specs.Written.{is_plain, port_inputs, is_register, registers_of}
@@ -380,10 +382,32 @@ module _ (m : Module) (readable : IsModule m) (early : early_refusal m ≡ None)
     reads = no_read_starts (cells_of m) fine;
   }
 
+-- none of this hangs on the words of memories
+clocking_with : (net : Net) (ms : List MemoryWords) → NetClocking net → NetClocking (record net { memories = ms })
+clocking_with net ms (unclocked registers clock) = unclocked registers clock
+clocking_with net ms (clocked bit place rising clock input registers reads outputs) =
+    clocked bit place rising clock input registers reads outputs
+
+facts_with : (net : Net) (ms : List MemoryWords) → NetFacts net → NetFacts (record net { memories = ms })
+facts_with net ms facts = record {
+  shapes = facts.shapes;
+  plain = facts.plain;
+  one_way = facts.one_way;
+  bits = facts.bits;
+  once = facts.once;
+  clocking = clocking_with net ms facts.clocking;
+  names = facts.names;
+  names_order = facts.names_order;
+  order = order_with net ms facts.order;
+  reads = facts.reads;
+}
+
 pub facts_of_net : (net : Net) → IsWellFormed net → AllByRecursion (λ cell. is_plain cell.class ≡ true) net.cells → NetFacts net
 unfolding net_of
 facts_of_net net w plain =
+    let m = w.«module» in
     subst NetFacts (sym w.is)
-    (facts_of_module w.«module» w.readable w.early w.not_reserved
+    (facts_with (net_of m) net.memories
+    (facts_of_module m w.readable w.early w.not_reserved
     (subst (λ (n : Net). AllByRecursion (λ cell. is_plain cell.class ≡ true) n.cells) w.is plain)
-    (subst HasBitOrder w.is w.order))
+    (order_with (record (net_of m) { memories = net.memories }) (net_of m).memories (subst HasBitOrder w.is w.order))))

@@ -21,13 +21,13 @@ use Rattle.cs_net.specs.Accept.{HasNoLoop, IsAccepted, Refuses, RefusesLate, Ref
 use Rattle.cs_net.specs.Build.{cell_of, net_of, port_of, words_by}
 use Rattle.cs_conditions.specs.Conditions.{early_refusal, is_reserved, reserved}
 use Rattle.cs_modules.specs.Modules.{cells_of, clock_of, is_marked, only_marked, only_one, top_of}
-use Rattle.cs_net.specs.Invariant.{HasBitOrder, IsSound, IsWellFormed}
+use Rattle.cs_net.specs.Invariant.{HasBitOrder, IsSound, IsWellFormed, size_of}
 use Rattle.cs_net.specs.Netlist.{Net}
 use Rattle.cs_modules.specs.Pins.{class_at}
 use Rattle.cs_net.proofs.LimitLemmas.{all_narrow}
 use Rattle.cs_net.proofs.Orders.{no_loop_of_order}
 
-abbrev net_with : List ℕ → List Port → List Cell → List (Option MemShape) → Option Clock → List BitValue → List MemoryWords → Net
+abbrev pub net_with : List ℕ → List Port → List Cell → List (Option MemShape) → Option Clock → List BitValue → List MemoryWords → Net
 net_with name ports cells shapes clock starts memories =
     record { name = name; ports = ports; cells = cells; shapes = shapes; clock = clock; starts = starts; memories = memories }
 
@@ -48,12 +48,14 @@ unfolding net_of limit_fault
 narrow_memories m sound = all_narrow _ (map shape_of (cells_of m)) sound.within
 
 pub is_well_formed : (m : Module) → IsModule m → early_refusal m ≡ None → IsSound m → (net : Net) → net ≡ net_of m → IsWellFormed net
+unfolding net_of
 is_well_formed m readable early sound net is = record {
   «module» = m;
   readable = readable;
   early = early;
   not_reserved = sound.not_reserved;
-  is = is;
+  is = subst (λ (n : Net). n ≡ record (net_of m) { memories = n.memories }) (sym is) refl;
+  memories = sym (ap (λ (n : Net). map size_of n.memories) is);
   order = subst HasBitOrder (sym is) sound.order;
   within = subst (λ n. limit_fault n ≡ None) (sym is) sound.within;
 }

@@ -28,3 +28,8 @@ pub mod StartOrder
 pub mod Occurrences
 pub mod DrivenOnce
 pub mod PinWidths
+pub mod OtherWords
+pub mod MemoryWidths
+pub mod OneRefusal
+pub mod ClockPins
+pub mod ClockFacts

@@ -13,7 +13,7 @@ use Rattle.cs_net.specs.declared.state.MemoryWords.{MemoryWords}
 use Rattle.cs_modules.specs.Memories.{shapes_in, shape_by, shape_of}
 use Rattle.cs_net.specs.Build.{cell_of, net_of, places_from, words_by}
 use Rattle.cs_modules.specs.Modules.{cells_of, is_memory}
-use Rattle.cs_net.specs.Invariant.{IsWellFormed}
+use Rattle.cs_net.specs.Invariant.{AreAlike, AreMemoryPlaces, IsWellFormed, size_of}
 use Rattle.cs_net.specs.Netlist.{Net, words_at}
 use Rattle.cs_modules.specs.Pins.{class_at}
 use Rattle.cs_net.proofs.CellNames.{below_differs, bytes_eq_flips, same_itself}
@@ -183,6 +183,14 @@ words_there name ms j first = by (slice_get ms j) (found_at name ms j first) (st
     by None found named = absurd (cc)
     by (Some m) found named = ap (λ o. Some (unwrap_or (option_map (λ (n : MemoryWords). n.words) o) [])) (sym found)
 
+-- memories that are alike have the same names
+pub names_alike : (old new : List MemoryWords) → AreAlike old new → map (λ (m : MemoryWords). m.name) old ≡ map (λ (m : MemoryWords). m.name) new
+names_alike old new same = firsts old ∙ ap (map (λ (size : List ℕ × List ℕ). size.0)) same ∙ sym (firsts new)
+  where
+    firsts : (ms : List MemoryWords) → map (λ (m : MemoryWords). m.name) ms ≡ map (λ (size : List ℕ × List ℕ). size.0) (map size_of ms)
+    firsts [] = refl
+    firsts (m ∷ ms) = ap (λ names. m.name ∷ names) (firsts ms)
+
 -- ---- of a netlist
 
 module _ (net : Net) (w : IsWellFormed net) where
@@ -191,7 +199,10 @@ module _ (net : Net) (w : IsWellFormed net) where
 
   names_are : names_of net.memories ≡ memory_names net.cells net.shapes
   unfolding net_of names_of
-  names_are = subst (λ (n : Net). map (λ (m : MemoryWords). m.name) n.memories ≡ memory_names n.cells n.shapes) (sym w.is) (words_named (cells_of w.«module»))
+  names_are =
+      sym (names_alike (net_of w.«module»).memories net.memories w.memories)
+      ∙ subst (λ (n : Net). map (λ (m : MemoryWords). m.name) (net_of w.«module»).memories ≡ memory_names n.cells n.shapes) (sym w.is)
+      (words_named (cells_of w.«module»))
 
   -- one entry for each cell
   pub shape_count : length net.shapes ≡ length net.cells
@@ -263,3 +274,7 @@ module _ (net : Net) (w : IsWellFormed net) where
   pub memory_name : (i : ℕ) (cell : Cell) (shape : MemShape) → slice_get net.cells i ≡ Some cell → slice_get net.shapes i ≡ Some (Some shape) →
       option_map (λ (m : MemoryWords). m.name) (slice_get net.memories (get_or (places_from 0 net.shapes) i 0)) ≡ Some cell.name
   memory_name i cell shape at is = named_there net.memories refl i cell shape at is
+
+  -- the places that are counted are those of the netlist's memories
+  pub are_places : AreMemoryPlaces net (places_from 0 net.shapes)
+  are_places i cell shape at is = words_by_place net.memories refl i cell shape at is

@@ -33,11 +33,11 @@ pin_there pins (w ∷ widths) name n all is =
     ] refl is
 
 -- as many as are counted
-length-count_from : (from count : ℕ) → length (count_from from count) ≡ count
+pub length-count_from : (from count : ℕ) → length (count_from from count) ≡ count
 length-count_from from zero = refl
 length-count_from from (suc count) = ap suc (length-count_from (from + 1) count)
 
-length-map-count : {A : Type 0} (f : ℕ → A) (xs : List ℕ) → length (map f xs) ≡ length xs
+pub length-map-count : {A : Type 0} (f : ℕ → A) (xs : List ℕ) → length (map f xs) ≡ length xs
 length-map-count f [] = refl
 length-map-count f (x ∷ xs) = ap suc (length-map-count f xs)
 
@@ -53,7 +53,7 @@ same_widths d Asynchronous = refl
 same_widths d NotFine = refl
 same_widths d Unknown = refl
 
-wide_decl : (d : CellDecl) → has_right_pins d ≡ true → (name : List ℕ) (n : ℕ) → width_at (widths_by (class_at d) (shape_of d)) name ≡ Some n → length (bits_of (cell_of d) name) ≡ n
+pub wide_decl : (d : CellDecl) → has_right_pins d ≡ true → (name : List ℕ) (n : ℕ) → width_at (widths_by (class_at d) (shape_of d)) name ≡ Some n → length (bits_of (cell_of d) name) ≡ n
 wide_decl d right name n is =
     let widths = widths_of (class_at d) d in
     let parts = both (list_all (is_pin_of widths) d.pins) (list_all (λ w. has_pin d.pins w.0) widths) (both (has_sizes (class_at d) d) (has_pins widths d.pins) right).1 in

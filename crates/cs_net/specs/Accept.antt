@@ -111,6 +111,11 @@ abbrev pub is_limit : NetError → Bool
 is_limit (Limit fault) = true
 is_limit _ = false
 
+-- a loop within a clock
+abbrev pub is_loop : NetError → Bool
+is_loop (GateLoop names) = true
+is_loop _ = false
+
 -- the refusals after the early ones
 abbrev pub RefusesLate : Module → NetError → Type 0
 RefusesLate m (GateLoop names) = IsLoopOfCells (net_of m) names

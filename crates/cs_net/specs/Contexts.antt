@@ -1,6 +1,6 @@
 -- The starts of contexts: each memory cell that the images name starts with the context's image.
-use Rattle.std.specs.Prelude.{ℕ, ◌+◌, ◌*◌, List, [], ◌∷◌, Bool, Option, Some, None, map, slice_range, slice_index_or, length}
-use Rattle.std.specs.List.{enumerate_from}
+use Rattle.std.specs.Prelude.{◌≡◌, ℕ, ◌+◌, ◌*◌, List, [], ◌∷◌, Bool, Option, Some, None, map, slice_range, slice_index_or, length, sum, ⊤}
+use Rattle.std.specs.List.{AllByRecursion, enumerate_from, zip}
 use Rattle.cs_cells.specs.Memories.{Words}
 use Rattle.cs_net.specs.declared.images.Images.{Images}
 use Rattle.cs_net.specs.declared.state.MemoryWords.{MemoryWords}
@@ -11,6 +11,20 @@ use Rattle.cs_net.specs.Drivers.{own_start}
 -- the bits of an image, least significant bit of word 0 first
 abbrev pub Image : Type 0
 Image = List Bool
+
+-- it has as many bits as these words together
+abbrev pub IsImageOf : Words → Image → Type 0
+IsImageOf words image = length image ≡ sum (map length words)
+
+-- where the images name a memory, they have an image of it for each of c contexts
+abbrev pub AreImagesOf : ℕ → MemoryWords → Option (List Image) → Type 0
+AreImagesOf c memory None = ⊤
+AreImagesOf c memory (Some images) = (length images ≡ c) × AllByRecursion (IsImageOf memory.words) images
+
+-- the images are those of this netlist and c contexts: one entry for each memory in order
+pub record AreImagesFor (net : Net) (c : ℕ) (images : Images) : Type 0 where
+  pub count : length images.of ≡ length net.memories
+  pub each : AllByRecursion (λ e. AreImagesOf c e.0 e.1) (zip net.memories images.of)
 
 -- an image cut into words as these are: word i has the bits from i times its width on
 abbrev pub image_words : Words → Image → Words
@@ -32,6 +46,10 @@ with_images k (memory ∷ memories) (entry ∷ entries) = with_image k memory en
 -- images that name no memory
 abbrev pub no_images : Net → Images
 no_images net = record { of = map (λ m. None) net.memories }
+
+-- the netlist that has the starts of context k for its own
+abbrev pub of_context : Net → Images → ℕ → Net
+of_context net images k = record net { memories = with_images k net.memories images.of }
 
 -- the netlist's own start, with the images of context k
 abbrev pub context_start : Net → Images → ℕ → Snapshot

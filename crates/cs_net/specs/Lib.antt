@@ -10,3 +10,4 @@ pub mod Trace
 pub mod Contexts
 pub mod Isolates
 pub mod Widths
+pub mod Clocks

@@ -1,8 +1,14 @@
 // Starts of memories, one for each context.
-ghost use Rattle.std.specs.Prelude.{◌≡◌, IfOk};
-ghost use Rattle.cs_net.specs.Contexts.{no_images};
+ghost use Rattle.std.specs.Prelude.{◌≡◌, ◌+◌, ◌*◌, ◌<◌, ℕ, [], IfOk, length, slice_index_or, slice_range};
+ghost use Rattle.cs_net.specs.Contexts.{AreImagesFor, context_start, image_words, no_images, of_context, with_image, with_images};
+ghost use Rattle.cs_net.specs.Drivers.{own_start};
+ghost use Rattle.cs_net.specs.Invariant.{AreAlike};
 
+use crate::copies::{copied, copy_cells, copy_ports, copy_shapes, copy_words};
+use crate::initial_values::value_map;
+use crate::memories::memory_places;
 use crate::netlist::Netlist;
+use crate::state::MemoryWords;
 use cs_base::Sequence;
 use std::alloc::{AllocError, Global};
 
@@ -14,14 +20,140 @@ pub struct Images {
 }
 
 impl Images {
-    /// Images that name no memory of a netlist.
+    /// Images that name no memory of a netlist; they are right for any number of contexts.
     pub fn none(alloc: Global, net: &Netlist) -> Result<Self, AllocError>
-        ensures { IfOk result (λ images. images ≡ no_images net.now) }
+        ensures is { IfOk result (λ images. images ≡ no_images net.now) }
+        ensures fit { IfOk result (λ images. (c : ℕ) → AreImagesFor net.now c images) }
     {
         let mut of = Sequence::new(alloc);
         for _memory in net.memories.as_slice() {
             of.push(None)?;
         }
         Ok(Images { of })
+    }
+}
+
+// The image of context k, and the empty one where there is none.
+fn image_of(images: &[Sequence<bool>], k: u32) -> &[bool]
+    ensures { result.now ≡ slice_index_or images.now k [] }
+{
+    match images.get(k as usize) {
+        Some(image) => image.as_slice(),
+        None => &[],
+    }
+}
+
+// Word i of an image whose words are so wide.
+fn word_of(image: &[bool], i: usize, width: usize) -> &[bool]
+    ensures { result.now ≡ slice_range image.now (i * width) (i * width + width) }
+{
+    let start = i.saturating_mul(width).min(image.len());
+    let end = start.saturating_add(width).min(image.len());
+    &image[start..end]
+}
+
+// An image cut into words as these are.
+fn image_words(
+    alloc: Global,
+    words: &[Sequence<bool>],
+    image: &[bool],
+) -> Result<Sequence<Sequence<bool>>, AllocError>
+    ensures { IfOk result (λ cut. cut ≡ image_words words.now image.now) }
+{
+    let mut cut = Sequence::new(alloc);
+    for (i, word) in words.iter().enumerate() {
+        cut.push(copied(alloc, word_of(image, i, word.len()))?)?;
+    }
+    Ok(cut)
+}
+
+// The words of a memory in context k, where this is its entry among the images.
+fn words_in(
+    alloc: Global,
+    memory: &MemoryWords,
+    entry: &Option<Sequence<Sequence<bool>>>,
+    k: u32,
+) -> Result<Sequence<Sequence<bool>>, AllocError>
+    ensures { IfOk result (λ words. words ≡ (with_image k memory.now entry.now).words) }
+{
+    let words = memory.words.as_slice();
+    match entry {
+        Some(images) => image_words(alloc, words, image_of(images.as_slice(), k)),
+        None => copy_words(alloc, words),
+    }
+}
+
+// The same memory in context k.
+fn with_image(
+    alloc: Global,
+    memory: &MemoryWords,
+    entry: &Option<Sequence<Sequence<bool>>>,
+    k: u32,
+) -> Result<MemoryWords, AllocError>
+    ensures { IfOk result (λ other. other ≡ with_image k memory.now entry.now) }
+{
+    let words = words_in(alloc, memory, entry, k)?;
+    Ok(MemoryWords {
+        name: memory.name.copy(alloc)?,
+        words,
+    })
+}
+
+// The same memories in context k.
+fn with_images(
+    alloc: Global,
+    memories: &[MemoryWords],
+    entries: &[Option<Sequence<Sequence<bool>>>],
+    k: u32,
+) -> Result<Sequence<MemoryWords>, AllocError>
+    requires { length entries.now ≡ length memories.now }
+    ensures { IfOk result (λ others. others ≡ with_images k memories.now entries.now) }
+{
+    let mut others = Sequence::new(alloc);
+    for (place, memory) in memories.iter().enumerate() {
+        others.push(with_image(alloc, memory, &entries[place], k)?)?;
+    }
+    Ok(others)
+}
+
+impl Netlist {
+    /// The netlist of context k, counted from 0: each memory that the images name starts with its image k, and all else
+    /// is the same. It errs only where memory runs out.
+    pub fn with_images(&self, alloc: Global, images: &Images, k: u32) -> Result<Netlist, AllocError>
+        requires { (c : ℕ) × AreImagesFor self.now c images.now × (k < c) }
+        ensures is { IfOk result (λ net. net ≡ of_context self.now images.now k) }
+        ensures start { IfOk result (λ net. own_start net ≡ context_start self.now images.now k) }
+    {
+        let memories = with_images(alloc, self.memories.as_slice(), images.of.as_slice(), k)?;
+        self.with_memories(alloc, memories)
+    }
+
+    // The netlist with other words in its memories.
+    fn with_memories(
+        &self,
+        alloc: Global,
+        memories: Sequence<MemoryWords>,
+    ) -> Result<Netlist, AllocError>
+        requires { AreAlike self.now.memories memories }
+        ensures { IfOk result (λ net. net ≡ record self.now { memories = memories }) }
+    {
+        let shapes = copy_shapes(alloc, self.shapes.as_slice())?;
+        let memory_places = memory_places(alloc, shapes.as_slice())?;
+        let starts = copied(alloc, self.starts.as_slice())?;
+        let start_values = value_map(alloc, starts.as_slice())?;
+        Ok(Netlist {
+            name: self.name.copy(alloc)?,
+            ports: copy_ports(alloc, self.ports.as_slice())?,
+            cells: copy_cells(alloc, self.cells.as_slice())?,
+            shapes,
+            clock: self.clock,
+            starts,
+            memories,
+            order: copied(alloc, self.order.as_slice())?,
+            start_values,
+            memory_places,
+            input_count: self.input_count,
+            output_count: self.output_count,
+        })
     }
 }

@@ -1,15 +1,24 @@
 // Laws of traces, of parts, of isolation and of what an accepted netlist lists. Each is a function without effect, whose
 // clauses are the law.
-ghost use Rattle.std.specs.Prelude.{◌≡◌, ◌+◌, ◌-◌, ◌*◌, ◌/◌, ◌<◌, ℕ, List, [], Option, Some, None, bytes_eq, find, flat_map, get_or, is_some, length, map, option_and_then, option_map, slice_get, slice_index_or, true};
-ghost use Rattle.std.specs.List.{IsDistinct, zip};
+ghost use Rattle.std.specs.Prelude.{◌≡◌, ◌+◌, ◌-◌, ◌*◌, ◌/◌, ◌<◌, ◌⊎◌, ◌↔◌, ℕ, List, [], Option, Some, None, bytes_eq, find, flat_map, get_or, is_some, length, map, option_and_then, option_map, replicate, slice_get, slice_index_or, false, true};
+ghost use Rattle.std.specs.List.{AllByRecursion, IsDistinct, zip};
+ghost use Rattle.cs_base.specs.declared.signal.Signal.TheVariants.{Bit};
+ghost use Rattle.cs_cells.specs.declared.class.Class.TheVariants.{Register};
+ghost use Rattle.cs_cells.specs.declared.register.FfKind.{FfKind};
 ghost use Rattle.cs_cells.specs.declared.memory.MemShape.{MemShape};
+ghost use Rattle.cs_cells.specs.Memories.{word_count};
 ghost use Rattle.cs_net.specs.declared.netlist.Cell.{Cell};
 ghost use Rattle.cs_net.specs.declared.state.MemoryWords.{MemoryWords};
+ghost use Rattle.cs_conditions.specs.declared.error.NetError.{NetError};
+ghost use Rattle.cs_json.specs.declared.document.Document.{Document};
 ghost use Rattle.cs_modules.specs.Memories.{shapes_in};
+ghost use Rattle.cs_net.specs.Accept.{Refuses, is_loop};
 ghost use Rattle.cs_net.specs.Build.{places_from};
 ghost use Rattle.cs_modules.specs.Modules.{is_memory};
-ghost use Rattle.cs_modules.specs.Signals.{is_bit};
-ghost use Rattle.cs_net.specs.Drivers.{DrivenSignal, bits_of, drivers};
+ghost use Rattle.cs_modules.specs.declared.clocks.Clock.{Clock};
+ghost use Rattle.cs_modules.specs.Signals.{holds_bit, is_bit};
+ghost use Rattle.cs_net.specs.Clocks.{clock_signals, data_signals, input_signals};
+ghost use Rattle.cs_net.specs.Drivers.{DrivenSignal, bits_of, data_outputs, drivers};
 ghost use Rattle.cs_modules.specs.Pins.{width_at};
 ghost use Rattle.cs_net.specs.Starts.{starts_of_cell};
 ghost use Rattle.cs_net.specs.Widths.{widths_by};
@@ -39,6 +48,12 @@ pub fn isolates_itself()
     ensures { (net : Net) → HasBitOrder net → Isolates net net (no_images net) 1 }
 {}
 
+/// A document has at most one refusal, but for which loop is named.
+pub fn one_refusal()
+    ensures { (doc : Document) (top : Option (List ℕ)) (e f : NetError) → Refuses doc top e → Refuses doc top f
+        → (e ≡ f) ⊎ ((is_loop e ≡ true) × (is_loop f ≡ true)) }
+{}
+
 /// Each cell has one entry among the shapes, and a memory alone has a shape. The words of the memories stand in order of
 /// the cells, under the cells' names, no two of which are equal.
 pub fn memories_in_order(net: &Netlist)
@@ -50,6 +65,16 @@ pub fn memories_in_order(net: &Netlist)
     ensures named { (i : ℕ) (cell : Cell) (shape : MemShape) → slice_get net.now.cells i ≡ Some cell
         → slice_get net.now.shapes i ≡ Some (Some shape)
         → option_map (λ m. m.name) (slice_get net.now.memories (get_or (places_from 0 net.now.shapes) i 0)) ≡ Some cell.name }
+{
+    net.keeps();
+}
+
+/// The memories of a netlist stand in order of its shapes; each starts with as many words as the lesser of SIZE and
+/// 2^ABITS, each of WIDTH bits.
+pub fn memories_are_wide(net: &Netlist)
+    ensures { (i : ℕ) (shape : MemShape) (memory : MemoryWords) → slice_get (shapes_in net.now.shapes) i ≡ Some shape
+        → slice_get net.now.memories i ≡ Some memory
+        → map length memory.words ≡ replicate (word_count shape) shape.width }
 {
     net.keeps();
 }
@@ -88,6 +113,22 @@ pub fn pins_are_wide(net: &Netlist)
     ensures { (i : ℕ) (cell : Cell) (shape : Option MemShape) → slice_get net.now.cells i ≡ Some cell
         → slice_get net.now.shapes i ≡ Some shape
         → (name : List ℕ) (n : ℕ) → width_at (widths_by cell.class shape) name ≡ Some n → length (bits_of cell name) ≡ n }
+{
+    net.keeps();
+}
+
+/// A netlist has a clock exactly where something clocks a cell. Each register then has the clock's edge, all that clocks a
+/// cell is the clock's bit, and that is a bit of an input port, which no cell reads beside and no output port has.
+pub fn one_clock(net: &Netlist)
+    ensures exactly { (net.now.clock ≡ None) ↔ (clock_signals net.now ≡ []) }
+    ensures all { (clock : Clock) → net.now.clock ≡ Some clock
+        → AllByRecursion (λ s. s ≡ Bit clock.bit) (clock_signals net.now) }
+    ensures edges { (clock : Clock) → net.now.clock ≡ Some clock
+        → (i : ℕ) (cell : Cell) (kind : FfKind) → slice_get net.now.cells i ≡ Some cell → cell.class ≡ Register kind
+        → kind.rising ≡ clock.rising }
+    ensures input { (clock : Clock) → net.now.clock ≡ Some clock → holds_bit clock.bit (input_signals net.now) ≡ true }
+    ensures not_read { (clock : Clock) → net.now.clock ≡ Some clock → holds_bit clock.bit (data_signals net.now) ≡ false }
+    ensures not_output { (clock : Clock) → net.now.clock ≡ Some clock → holds_bit clock.bit (data_outputs net.now) ≡ false }
 {
     net.keeps();
 }

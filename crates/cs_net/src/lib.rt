@@ -3,6 +3,7 @@
 
 mod acceptance;
 mod build;
+mod copies;
 mod elements;
 mod images;
 mod initial_values;
@@ -17,8 +18,8 @@ pub use acceptance::accept;
 pub use elements::Element;
 pub use images::Images;
 pub use laws::{
-    driven_once, isolates_itself, memories_in_order, one_trace, pins_are_wide, rows_of_a_part,
-    starts_in_order, words_by_name,
+    driven_once, isolates_itself, memories_are_wide, memories_in_order, one_clock, one_refusal,
+    one_trace, pins_are_wide, rows_of_a_part, starts_in_order, words_by_name,
 };
 pub use netlist::{Cell, Netlist, PinBits, Port};
 pub use state::{BitValue, MemoryWords, Snapshot};
