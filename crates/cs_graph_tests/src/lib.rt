@@ -4,6 +4,8 @@
 #[cfg(test)]
 mod building;
 #[cfg(test)]
+mod clocks;
+#[cfg(test)]
 mod contents;
 #[cfg(test)]
 mod cycles;
@@ -11,3 +13,5 @@ mod cycles;
 mod limits;
 #[cfg(test)]
 mod machines;
+#[cfg(test)]
+mod slowing;

@@ -1,0 +1,150 @@
+// Machines with each register once for each context.
+use crate::building::{Wire, machine};
+use crate::clocks::values_of;
+use crate::machines::{
+    inverter_loop, is_edge, is_memory_of_four_words, is_write_of_six_pins, memory_with_two_ports,
+};
+use cs_base::{Contexts, Counted, LimitFault, MemId, VertexId};
+use cs_cells::Kind;
+use cs_graph::{Machine, VertexKind};
+use cs_slow::{SlowError, slow};
+use std::alloc::Global;
+use std::process::Abort;
+
+fn slowed(
+    rt: &impl Abort,
+    alloc: Global,
+    machine: &Machine,
+    contexts: u64,
+) -> Result<Machine, SlowError> {
+    let contexts = Contexts::new(contexts).expect(rt, "contexts");
+    slow(alloc, machine, contexts)
+}
+
+const NOT: VertexKind = VertexKind::Gate(Kind::Not);
+
+// An inverter that feeds itself through registers with these starts.
+fn inverter(rt: &impl Abort, alloc: Global, starts: &[bool]) -> Machine {
+    machine(rt, alloc, &[NOT], &[(1, 0, 1, starts)]).expect(rt, "a machine")
+}
+
+#[test]
+fn each_content_for_each_context(rt: HostRuntime) {
+    let alloc = rt.alloc();
+    let machine = inverter(&rt, alloc, &[true, false]);
+    let starts = [true, true, true, false, false, false];
+    for (contexts, starts) in [(3, &starts[..]), (2, &starts[1..5]), (1, &starts[2..4])] {
+        let made = slowed(&rt, alloc, &machine, contexts).expect(&rt, "a machine");
+        assert!(rt; made.vertex_count() == 2 && made.edge_count() == 1);
+        assert!(rt; is_edge(&made, 0, (1, 0, 1, starts)), "{contexts}");
+    }
+}
+
+#[test]
+fn edges_without_a_register(rt: HostRuntime) {
+    let alloc = rt.alloc();
+    let machine = inverter_loop(&rt, alloc);
+    let made = slowed(&rt, alloc, &machine, 2).expect(&rt, "a machine");
+    let two = [false, false].as_slice();
+    let wires: [Wire<'_>; 5] = [
+        (2, 0, 4, two),
+        (3, 0, 5, &[]),
+        (4, 0, 3, &[]),
+        (5, 0, 1, two),
+        (5, 1, 4, two),
+    ];
+    assert!(rt; made.vertex_count() == 6 && made.edge_count() == 5);
+    for (e, wire) in wires.iter().enumerate() {
+        assert!(rt; is_edge(&made, e as u32, *wire), "edge {e}");
+    }
+    assert!(rt; made.order() == machine.order());
+}
+
+// How many registers there would be, where they are too many.
+fn found(made: Result<Machine, SlowError>) -> Option<LimitFault> {
+    match made {
+        Err(SlowError::Limit(fault)) => Some(fault),
+        _ => None,
+    }
+}
+
+// Two inverters that feed themselves, the second through one register.
+#[test]
+fn limit_of_registers(rt: HostRuntime) {
+    let alloc = rt.alloc();
+    let bits = vec![in alloc; true; 65_535].expect(&rt, "bits");
+    for (registers, contexts, wanted) in [
+        (4_096, 16, None),
+        (4_097, 16, Some(65_552)),
+        (21_845, 3, None),
+        (21_846, 3, Some(65_538)),
+        (65_536, 1, None),
+        (65_536, 16, Some(1_048_576)),
+    ] {
+        let wires: [Wire<'_>; 2] = [(1, 0, 1, &bits[..registers - 1]), (2, 0, 2, &[true])];
+        let machine = machine(&rt, alloc, &[NOT, NOT], &wires).expect(&rt, "a machine");
+        let made = slowed(&rt, alloc, &machine, contexts);
+        assert!(rt; made.is_ok() == wanted.is_none(), "{registers}");
+        let fault = wanted.map(|found| LimitFault {
+            what: Counted::Weight,
+            found,
+            most: 65_536,
+        });
+        assert!(rt; found(made) == fault, "{registers}");
+    }
+}
+
+#[test]
+fn a_slowed_machine_keeps_its_memory(rt: HostRuntime) {
+    let alloc = rt.alloc();
+    let machine = memory_with_two_ports(&rt, alloc);
+    let made = slowed(&rt, alloc, &machine, 4).expect(&rt, "a machine");
+    assert!(rt; made.vertex_count() == 3 && made.memory_count() == 1);
+    assert!(rt; is_memory_of_four_words(made.memory(MemId::new(0))));
+    assert!(rt; is_write_of_six_pins(made.vertex(VertexId::new(2))));
+}
+
+// An input 1, an output 2, and a gate 3 of the input and of its own value, which a register with this start holds.
+fn with_feedback(
+    rt: &impl Abort,
+    alloc: Global,
+    gate: Kind,
+    start: bool,
+    shown: &[bool],
+) -> Machine {
+    let kinds = [
+        VertexKind::Input,
+        VertexKind::Output,
+        VertexKind::Gate(gate),
+    ];
+    let wires: [Wire<'_>; 3] = [(2, 0, 3, shown), (3, 0, 1, &[]), (3, 1, 3, &[start])];
+    machine(rt, alloc, &kinds, &wires).expect(rt, "a machine")
+}
+
+fn bits(rt: &impl Abort, alloc: Global, text: &str) -> Vec<bool> {
+    let mut bits = Vec::new(alloc);
+    for byte in text.as_bytes() {
+        bits.push(*byte == b'1').expect(rt, "a bit");
+    }
+    bits
+}
+
+// Two contexts in turn, and each of them alone.
+#[test]
+fn contexts_in_turn(rt: HostRuntime) {
+    let alloc = rt.alloc();
+    let held = [false].as_slice();
+    let xor = with_feedback(&rt, alloc, Kind::Xor, false, held);
+    let and = with_feedback(&rt, alloc, Kind::And, true, &[]);
+    for (machine, inputs, outputs) in [
+        (&xor, ["101110", "111", "010"], ["001001", "010", "001"]),
+        (&and, ["110111", "101", "111"], ["110101", "100", "111"]),
+    ] {
+        let made = slowed(&rt, alloc, machine, 2).expect(&rt, "a machine");
+        for (place, machine) in [&made, machine, machine].iter().enumerate() {
+            let inputs = bits(&rt, alloc, inputs[place]);
+            let shown = values_of(&rt, alloc, machine, inputs.as_slice(), 2);
+            assert!(rt; shown == bits(&rt, alloc, outputs[place]), "{place}");
+        }
+    }
+}
