@@ -1,0 +1,102 @@
+-- The vertices of each cell.
+use Rattle.std.specs.Prelude.{ℕ, ◌+◌, List, [], ◌∷◌, ◌++◌, if◌then◌else◌, map, Option, Some, None, codes}
+use Rattle.std.specs.List.{enumerate_from, zip}
+use Rattle.cs_base.specs.declared.signal.Signal.{Signal}
+use Rattle.cs_cells.specs.declared.class.Class.{Class}
+use Rattle.cs_cells.specs.declared.class.Class.TheVariants.{Asynchronous, Gate as GateClass, Memory, NotFine, Register, Scope, Unknown}
+use Rattle.cs_cells.specs.declared.gate.Kind.{Kind}
+use Rattle.cs_cells.specs.declared.memory.MemShape.{MemShape}
+use Rattle.cs_cells.specs.declared.memory.ReadShape.{ReadShape}
+use Rattle.cs_cells.specs.Gates.{pin_count, pin_name}
+use Rattle.cs_graph.specs.declared.vertex.VertexKind.TheVariants.{Gate, Read, Write}
+use Rattle.cs_modules.specs.Pins.{count_from}
+use Rattle.cs_net.specs.declared.netlist.Cell.{Cell}
+use Rattle.cs_net.specs.Build.{places_from}
+use Rattle.cs_net.specs.Drivers.{port_part, read_data, read_element, register_of, signal_of}
+use Rattle.cs_net.specs.Netlist.{Net}
+use Rattle.cs_lower.specs.Registers.{register_parts}
+use Rattle.cs_lower.specs.Taps.{Parts, Piece, both, from_vertex, in_turn, no_parts, of_signal, of_vertex, piece}
+
+-- a cell with its shape, of a memory alone, and the number of memories before it
+pub record Placed : Type 0 where
+  pub cell : Cell
+  pub shape : Option MemShape
+  pub memory : ℕ
+
+-- a gate is one vertex
+abbrev pub gate_parts : ℕ → Cell → Kind → Parts
+gate_parts n cell kind = record {
+  pieces = record {
+    kind = Gate kind;
+    pins = map (λ i. of_signal (signal_of cell (pin_name kind i))) (count_from 0 (pin_count kind));
+    origin = cell.name;
+  } ∷ [];
+  wires = (signal_of cell (codes "Y"), from_vertex n 0) ∷ [];
+}
+
+-- ---- memories
+
+-- a data bit of a read port, by its place
+abbrev pub Datum : Type 0
+Datum = ℕ × Signal
+
+-- what the Read of number v gives, where the port is unclocked
+abbrev pub read_wires : ℕ → List Datum → Parts
+read_wires v bits = record { pieces = []; wires = map (λ e. (e.1, from_vertex v e.0)) bits }
+
+-- the register of a data bit of a clocked read, whose Read has the number v
+abbrev pub held_parts : Net → Cell → MemShape → ℕ × ReadShape → ℕ → ℕ → Datum → Parts
+held_parts net cell shape read v n e =
+    register_parts net n e.1 (read_element cell shape read.1 read.0 e.0) (of_vertex v e.0)
+
+-- what a read port gives
+abbrev pub data_parts : Net → Cell → MemShape → ℕ × ReadShape → ℕ → Parts
+data_parts net cell shape read v =
+    if read.1.clocked then in_turn (held_parts net cell shape read v) (v + 1) (read_data cell shape read.0)
+    else read_wires v (read_data cell shape read.0)
+
+-- a read port: a Read and, where it is clocked, the vertices of a register for each data bit
+abbrev pub read_parts : Net → ℕ → Cell → MemShape → ℕ → ℕ × ReadShape → Parts
+read_parts net memory cell shape v read =
+    both (record {
+      pieces = piece (Read memory read.0) (map of_signal (port_part cell (codes "RD_ADDR") shape.abits read.0)) ∷ [];
+      wires = [];
+    }) (data_parts net cell shape read v)
+
+-- a write port: address bits, data bits and enable bits
+abbrev pub write_piece : ℕ → Cell → MemShape → ℕ → Piece
+write_piece memory cell shape port =
+    piece (Write memory port)
+    (map of_signal (port_part cell (codes "WR_ADDR") shape.abits port ++ port_part cell (codes "WR_DATA") shape.width port
+    ++ port_part cell (codes "WR_EN") shape.width port))
+
+-- the write ports of a memory, which drive nothing
+abbrev pub write_parts : ℕ → Cell → MemShape → Parts
+write_parts memory cell shape =
+    record { pieces = map (write_piece memory cell shape) (count_from 0 shape.writes); wires = [] }
+
+-- its read ports, then its write ports
+abbrev pub memory_parts : Net → ℕ → ℕ → Cell → Option MemShape → Parts
+memory_parts net n memory cell None = no_parts
+memory_parts net n memory cell (Some shape) =
+    both (in_turn (read_parts net memory cell shape) n (enumerate_from 0 shape.reads)) (write_parts memory cell shape)
+
+-- ---- all cells
+
+abbrev pub class_parts : Net → ℕ → Class → Placed → Parts
+class_parts net n (GateClass kind) c = gate_parts n c.cell kind
+class_parts net n (Register kind) c =
+    register_parts net n (signal_of c.cell (codes "Q")) (register_of c.cell kind) (of_signal (signal_of c.cell (codes "D")))
+class_parts net n Memory c = memory_parts net n c.memory c.cell c.shape
+class_parts net n Scope c = no_parts
+class_parts net n Asynchronous c = no_parts
+class_parts net n NotFine c = no_parts
+class_parts net n Unknown c = no_parts
+
+abbrev pub cell_parts : Net → ℕ → Placed → Parts
+cell_parts net n c = class_parts net n c.cell.class c
+
+-- the cells in order, each with its shape and its place among the memories
+abbrev pub placed_cells : Net → List Placed
+placed_cells net =
+    map (λ c. record { cell = c.0; shape = c.1.0; memory = c.1.1 }) (zip net.cells (zip net.shapes (places_from 0 net.shapes)))

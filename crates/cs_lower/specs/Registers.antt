@@ -1,0 +1,79 @@
+-- The multiplexers that stand before a register with an enable and a reset.
+use Rattle.std.specs.Prelude.{ℕ, ◌+◌, List, [], ◌∷◌, ◌++◌, Bool, true, false, not, if◌then◌else◌, length, Option, Some, None}
+use Rattle.cs_base.specs.declared.signal.Signal.{Signal}
+use Rattle.cs_base.specs.declared.signal.Signal.TheVariants.{Zero, One, Unknown, HighZ, Bit}
+use Rattle.cs_cells.specs.declared.gate.Kind.TheVariants.{Mux}
+use Rattle.cs_cells.specs.declared.register.ResetKind.{ResetKind}
+use Rattle.cs_cells.specs.Registers.{is_active}
+use Rattle.cs_graph.specs.declared.vertex.VertexKind.TheVariants.{Gate}
+use Rattle.cs_net.specs.Drivers.{Driver, StateElement, driver_of, gate, input, register, undriven, word_bit}
+use Rattle.cs_net.specs.Netlist.{Net}
+use Rattle.cs_lower.specs.Taps.{Parts, Piece, Tap, from_register, of_bit, of_signal, of_vertex, piece}
+
+-- ---- selects that never change
+
+abbrev pub still_driver : Driver → Option Bool
+still_driver undriven = Some false
+still_driver (input i) = None
+still_driver (gate kind pins) = None
+still_driver (word_bit w) = None
+still_driver (register r) = None
+
+-- the bit that a constant, or a bit that nothing drives, stands for
+abbrev pub still : Net → Signal → Option Bool
+still net Zero = Some false
+still net One = Some true
+still net Unknown = Some false
+still net HighZ = Some false
+still net (Bit b) = still_driver (driver_of net b)
+
+-- a select that is active for good, and one that is inactive for good
+abbrev pub always : Bool → Option Bool → Bool
+always high None = false
+always high (Some bit) = is_active high bit
+
+abbrev pub never : Bool → Option Bool → Bool
+never high None = false
+never high (Some bit) = not (is_active high bit)
+
+-- ---- multiplexers
+
+-- what comes out of vertices that follow one another, the first of which has the number `first`
+pub record Chain : Type 0 where
+  pub first : ℕ
+  pub pieces : List Piece
+  pub last : Tap
+
+-- a chain with one more vertex
+abbrev pub with_piece : Chain → Piece → Chain
+with_piece c p = record { first = c.first; pieces = c.pieces ++ p ∷ []; last = of_vertex (c.first + length c.pieces) 0 }
+
+-- a `$_MUX_` that gives `on` where the select is active, else `off`
+abbrev pub mux : Bool → Tap → Tap → Signal → Piece
+mux high off on select =
+    piece (Gate Mux) (if high then off ∷ on ∷ of_signal select ∷ [] else on ∷ off ∷ of_signal select ∷ [])
+
+-- a register that keeps what it holds while its enable is inactive
+abbrev pub with_enable : Net → Signal → Option Bool → Signal → Chain → Chain
+with_enable net q None e c = c
+with_enable net q (Some high) e c = if always high (still net e) then c else with_piece c (mux high (of_signal q) c.last e)
+
+-- a register that takes its reset value while its reset is active
+abbrev pub with_reset : Net → Option ResetKind → Signal → Chain → Chain
+with_reset net None r c = c
+with_reset net (Some reset) r c =
+    if never reset.high (still net r) then c else with_piece c (mux reset.high c.last (of_bit reset.value) r)
+
+-- the multiplexers before the register of a bit Q, from what it has at D: that which goes first is nearer D
+abbrev pub register_chain : Net → ℕ → Signal → StateElement → Tap → Chain
+register_chain net n q r d =
+    let at_d : Chain = record { first = n; pieces = []; last = d } in
+    if r.kind.enable_over_reset
+    then with_enable net q r.kind.enable r.enable (with_reset net r.kind.reset r.reset at_d)
+    else with_reset net r.kind.reset r.reset (with_enable net q r.kind.enable r.enable at_d)
+
+-- the vertices of a register, which drives Q
+abbrev pub register_parts : Net → ℕ → Signal → StateElement → Tap → Parts
+register_parts net n q r d =
+    let c = register_chain net n q r d in
+    record { pieces = c.pieces; wires = (q, from_register c.last) ∷ [] }

@@ -1,0 +1,2 @@
+//! From an accepted netlist to the graph that is slowed, banked and retimed.
+#![tactic(auto)]
