@@ -1,7 +1,7 @@
 -- The line of each fault.
 use Rattle.std.specs.Prelude.{ℕ, List, [], ◌∷◌, ◌++◌, codes, decimal}
 use Rattle.cs_report.specs.declared.fault.Fault.{Fault}
-use Rattle.cs_report.specs.declared.fault.Fault.TheVariants.{NoMemory, NoCommand, WordsOf, CannotRead, CannotWrite, DocumentNotJson, DocumentShape, Refused, Limit, FileTooLong, StimulusWidth, StimulusCharacter, StimulusUneven, CertificateNotJson, CertificateShape, NotBuilt, NotBuiltCell}
+use Rattle.cs_report.specs.declared.fault.Fault.TheVariants.{NoMemory, NoCommand, WordsOf, CannotRead, CannotWrite, DocumentNotJson, DocumentShape, Refused, Limit, FileTooLong, StimulusWidth, StimulusCharacter, StimulusUneven, CertificateNotJson, CertificateShape, ImagesNotJson, ImagesShape, ImagesName, ImagesCount, NotBuilt, NotBuiltCell}
 use Rattle.cs_report.specs.Limits.{limit_words}
 use Rattle.cs_report.specs.Refused.{refused_words}
 use Rattle.cs_report.specs.Words.{quoted}
@@ -22,6 +22,10 @@ line_column line column = codes "stimulus: line " ++ (decimal line ++ (codes " c
 abbrev pub uneven : ℕ → List ℕ
 uneven stream = codes "stimulus: stream " ++ decimal stream ++ codes " has another count of lines"
 
+-- a memory with so many images
+abbrev pub images_count : List ℕ → ℕ → List ℕ
+images_count name found = codes "images: " ++ (quoted name ++ (codes " has " ++ (decimal found ++ codes " images")))
+
 abbrev pub fault_words : Fault → List ℕ
 fault_words NoMemory = codes "out of memory"
 fault_words NoCommand = codes "usage: no such command"
@@ -38,6 +42,10 @@ fault_words (StimulusCharacter line column) = line_column line column
 fault_words (StimulusUneven stream) = uneven stream
 fault_words CertificateNotJson = codes "certificate: not json"
 fault_words (CertificateShape place) = codes "certificate: bad shape at " ++ place.path
+fault_words ImagesNotJson = codes "images: not json"
+fault_words (ImagesShape place) = codes "images: bad shape at " ++ place.path
+fault_words (ImagesName name) = codes "images: no memory " ++ quoted name
+fault_words (ImagesCount name found) = images_count name found
 fault_words NotBuilt = codes "not built"
 fault_words (NotBuiltCell name) = codes "not built: " ++ quoted name
 

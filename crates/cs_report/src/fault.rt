@@ -1,10 +1,10 @@
 // Why a run is refused, and the line that says so.
 ghost use Rattle.std.specs.Prelude.{◌≡◌, IfOk};
-ghost use Rattle.cs_report.specs.FaultLines.{fault_line, fault_words, too_long, line_width, line_column, uneven};
+ghost use Rattle.cs_report.specs.FaultLines.{fault_line, fault_words, images_count, too_long, line_width, line_column, uneven};
 ghost use Rattle.cs_report.specs.Limits.{counted_words, limit_words};
 
 use crate::refused::refused_text;
-use crate::words::{quoted_after, text_after};
+use crate::words::{quoted, quoted_after, text_after};
 use cs_base::{Counted, LimitFault, Text};
 use cs_conditions::NetError;
 use cs_json::Place;
@@ -43,6 +43,14 @@ pub enum Fault {
     CertificateNotJson,
     /// A paper is refused at this place.
     CertificateShape(Place),
+    /// An images file's bytes are no JSON.
+    ImagesNotJson,
+    /// An images file is refused at this place.
+    ImagesShape(Place),
+    /// An images file names no memory by this name.
+    ImagesName(Text),
+    /// An images file has another number of images of this memory than there are contexts.
+    ImagesCount { name: Text, found: u64 },
     /// The netlist is in no form that is handled yet.
     NotBuilt,
     /// This cell of the netlist isn't handled yet.
@@ -101,6 +109,14 @@ fn uneven(alloc: Global, stream: u32) -> Result<Text, AllocError>
     )?))
 }
 
+fn images_count(alloc: Global, name: &str, found: u64) -> Result<Text, AllocError>
+    ensures { IfOk result (λ text. text ≡ images_count name.now found) }
+{
+    let name = quoted(alloc, name)?;
+    let name = name.as_str();
+    Ok(Text::from_string(format!(in alloc; "images: {name} has {found} images")?))
+}
+
 fn fault_words(alloc: Global, fault: &Fault) -> Result<Text, AllocError>
     ensures { IfOk result (λ text. text ≡ fault_words fault.now) }
 {
@@ -124,6 +140,12 @@ fn fault_words(alloc: Global, fault: &Fault) -> Result<Text, AllocError>
         Fault::CertificateShape(place) => {
             text_after(alloc, "certificate: bad shape at ", place.path.as_str())
         }
+        Fault::ImagesNotJson => Text::from_str(alloc, "images: not json"),
+        Fault::ImagesShape(place) => {
+            text_after(alloc, "images: bad shape at ", place.path.as_str())
+        }
+        Fault::ImagesName(name) => quoted_after(alloc, "images: no memory ", name.as_str()),
+        Fault::ImagesCount { name, found } => images_count(alloc, name.as_str(), *found),
         Fault::NotBuilt => Text::from_str(alloc, "not built"),
         Fault::NotBuiltCell(name) => quoted_after(alloc, "not built: ", name.as_str()),
     }

@@ -3,16 +3,17 @@ use Rattle.std.proofs.Common.{◌≡◌, ◌≤◌, ◌∙◌, ℕ, List, [], �
 use Rattle.std.specs.Prelude.{Err, Ok, Result, ⊤}
 use Rattle.cs_report.specs.declared.fault.Fault.{Fault}
 use Rattle.cs_words.specs.declared.command.Command.{Command}
-use Rattle.cs_words.specs.declared.command.Command.TheVariants.{Slow, Sim, Mix, Part, Upgrade}
+use Rattle.cs_words.specs.declared.command.Command.TheVariants.{Slow, Sim, SimContext, Mix, Part, Upgrade}
 use Rattle.cs_words.specs.declared.command.MixWords.{MixWords}
 use Rattle.cs_words.specs.declared.command.PartWords.{PartWords}
+use Rattle.cs_words.specs.declared.command.SimContextWords.{SimContextWords}
 use Rattle.cs_words.specs.declared.command.SimWords.{SimWords}
 use Rattle.cs_words.specs.declared.command.SlowWords.{SlowWords}
 use Rattle.cs_words.specs.declared.command.UpgradeWords.{UpgradeWords}
 use Rattle.cs_words.specs.Commands.{IsWithin}
 use Rattle.cs_run.specs.declared.inputs.Input.{Input}
 use Rattle.cs_run.specs.declared.inputs.Role.{Role}
-use Rattle.cs_run.specs.declared.inputs.Role.TheVariants.{File, In, Net, Paper, Stim, Stream}
+use Rattle.cs_run.specs.declared.inputs.Role.TheVariants.{File, Images, In, Net, Paper, Stim, Stream}
 use Rattle.cs_run.specs.declared.reply.Reply.{Reply}
 use Rattle.cs_run.specs.declared.stop.Stop.{Stop}
 use Rattle.cs_run.specs.Commands.{Makes, MakesRight, Refuses, reads_of}
@@ -21,6 +22,7 @@ use Rattle.cs_run.specs.Mix.{AnswersMix}
 use Rattle.cs_run.specs.Part.{AnswersPart}
 use Rattle.cs_run.specs.Reasons.{Answers}
 use Rattle.cs_run.specs.Sim.{AnswersSim}
+use Rattle.cs_run.specs.SimContext.{AnswersSimContext}
 use Rattle.cs_run.specs.Slow.{AnswersSlow}
 use Rattle.cs_run.specs.Upgrade.{AnswersUpgrade}
 
@@ -47,6 +49,16 @@ pub sim_answers : (command : Command) (words : SimWords) (inputs : List Input) (
 sim_answers command words inputs bytes stim result is read also answers =
     of_variant command (Sim words) inputs result is
     (plain _ _ result (subst (λ b. AnswersSim b (bytes_of Stim inputs) result) read (subst (λ s. AnswersSim bytes s result) also answers)))
+
+pub sim_context_answers : (command : Command) (words : SimContextWords) (inputs : List Input) (bytes stim images : List ℕ)
+    (result : Result Reply Stop) → command ≡ SimContext words → bytes ≡ bytes_of Net inputs → stim ≡ bytes_of Stim inputs →
+    images ≡ bytes_of Images inputs → AnswersSimContext words bytes stim images result → AnswersInputs command inputs result
+sim_context_answers command words inputs bytes stim images result is read also more answers =
+    of_variant command (SimContext words) inputs result is
+    (plain _ _ result
+    (subst (λ b. AnswersSimContext words b (bytes_of Stim inputs) (bytes_of Images inputs) result) read
+    (subst (λ s. AnswersSimContext words bytes s (bytes_of Images inputs) result) also
+    (subst (λ i. AnswersSimContext words bytes stim i result) more answers))))
 
 pub mix_answers : (command : Command) (words : MixWords) (inputs : List Input) (result : Result Reply Stop) → command ≡ Mix words →
     AnswersMix words (all_bytes inputs) result → AnswersInputs command inputs result

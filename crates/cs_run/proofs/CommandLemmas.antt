@@ -4,9 +4,9 @@ use Rattle.std.specs.Prelude.{IsSome}
 use Rattle.cs_io.specs.Stores.{Files}
 use Rattle.cs_report.specs.declared.fault.Fault.{Fault}
 use Rattle.cs_words.specs.declared.command.Command.{Command}
-use Rattle.cs_words.specs.declared.command.Command.TheVariants.{Slow, Sim, Mix, Part, Upgrade}
+use Rattle.cs_words.specs.declared.command.Command.TheVariants.{Slow, Sim, SimContext, Mix, Part, Upgrade}
 use Rattle.cs_run.specs.declared.inputs.Input.{Input}
-use Rattle.cs_run.specs.declared.inputs.Role.TheVariants.{File, In, Net, Paper, Stim}
+use Rattle.cs_run.specs.declared.inputs.Role.TheVariants.{File, Images, In, Net, Paper, Stim}
 use Rattle.cs_run.specs.declared.reply.Reply.{Reply}
 use Rattle.cs_run.specs.declared.status.Status.TheVariants.{Done}
 use Rattle.cs_run.specs.Commands.{HasInputs, HasReason, Makes, Refuses, reads_of, writes_of}
@@ -16,6 +16,7 @@ use Rattle.cs_run.specs.Statuses.{status_of}
 use Rattle.cs_run.proofs.InputLemmas.{none_long, one_inputs}
 use Rattle.cs_run.proofs.MixLemmas.{mix_apart, mix_names, mix_status}
 use Rattle.cs_run.proofs.PartLemmas.{part_apart, part_names, part_status}
+use Rattle.cs_run.proofs.SimContextLemmas.{sim_context_apart, sim_context_names, sim_context_status}
 use Rattle.cs_run.proofs.SimLemmas.{sim_apart, sim_names, sim_status}
 use Rattle.cs_run.proofs.SlowLemmas.{slow_apart, slow_names, slow_status}
 use Rattle.cs_run.proofs.UpgradeLemmas.{upgrade_apart, upgrade_names, upgrade_status}
@@ -25,7 +26,8 @@ use Rattle.cs_run.proofs.WorldLemmas.{AreNamed}
 
 pub makes_done : (command : Command) (inputs : List Input) (reply : Reply) → Makes command inputs reply → reply.status ≡ Done
 makes_done (Slow words) inputs reply makes = ap (λ (r : Reply). r.status) makes.is
-makes_done (Sim words) inputs reply makes = ap (λ (r : Reply). r.status) makes.is
+makes_done (Sim words) inputs reply makes = ap (λ (r : Reply). r.status) makes.puts.is
+makes_done (SimContext words) inputs reply makes = ap (λ (r : Reply). r.status) makes.puts.puts.is
 makes_done (Mix words) inputs reply makes = ap (λ (r : Reply). r.status) makes.is
 makes_done (Part words) inputs reply makes = ap (λ (r : Reply). r.status) makes.is
 makes_done (Upgrade words) inputs reply makes = ap (λ (r : Reply). r.status) makes.is
@@ -34,6 +36,8 @@ makes_done (Upgrade words) inputs reply makes = ap (λ (r : Reply). r.status) ma
 pub makes_names : (command : Command) (inputs : List Input) (reply : Reply) → Makes command inputs reply → AreNamed (writes_of command) reply.writes
 makes_names (Slow words) inputs reply makes = slow_names words (bytes_of In inputs) reply makes
 makes_names (Sim words) inputs reply makes = sim_names (bytes_of Net inputs) (bytes_of Stim inputs) reply makes
+makes_names (SimContext words) inputs reply makes =
+    sim_context_names words (bytes_of Net inputs) (bytes_of Stim inputs) (bytes_of Images inputs) reply makes
 makes_names (Mix words) inputs reply makes = mix_names words (all_bytes inputs) reply makes
 makes_names (Part words) inputs reply makes = part_names words (bytes_of File inputs) reply makes
 makes_names (Upgrade words) inputs reply makes = upgrade_names words (bytes_of Paper inputs) reply makes
@@ -41,6 +45,8 @@ makes_names (Upgrade words) inputs reply makes = upgrade_names words (bytes_of P
 apart : (command : Command) (inputs : List Input) (reply : Reply) (fault : Fault) → Makes command inputs reply → Refuses command inputs fault → ⊥
 apart (Slow words) inputs reply fault makes refuses = slow_apart words (bytes_of In inputs) reply fault makes refuses
 apart (Sim words) inputs reply fault makes refuses = sim_apart (bytes_of Net inputs) (bytes_of Stim inputs) reply fault makes refuses
+apart (SimContext words) inputs reply fault makes refuses =
+    sim_context_apart words (bytes_of Net inputs) (bytes_of Stim inputs) (bytes_of Images inputs) reply fault makes refuses
 apart (Mix words) inputs reply fault makes refuses = mix_apart words (all_bytes inputs) reply fault makes refuses
 apart (Part words) inputs reply fault makes refuses = part_apart words (bytes_of File inputs) reply fault makes refuses
 apart (Upgrade words) inputs reply fault makes refuses = upgrade_apart words (bytes_of Paper inputs) reply fault makes refuses
@@ -49,6 +55,8 @@ inputs_status : (command : Command) (inputs : List Input) (a b : Reason) → Ref
     status_of a.fault ≡ status_of b.fault
 inputs_status (Slow words) inputs a b h k = slow_status (bytes_of In inputs) a b h k
 inputs_status (Sim words) inputs a b h k = sim_status (bytes_of Net inputs) (bytes_of Stim inputs) a b h k
+inputs_status (SimContext words) inputs a b h k =
+    sim_context_status words (bytes_of Net inputs) (bytes_of Stim inputs) (bytes_of Images inputs) a b h k
 inputs_status (Mix words) inputs a b h k = mix_status (all_bytes inputs) a b h k
 inputs_status (Part words) inputs a b h k = part_status (bytes_of File inputs) a b h k
 inputs_status (Upgrade words) inputs a b h k = upgrade_status (bytes_of Paper inputs) a b h k

@@ -1,8 +1,8 @@
 -- The contract of a run, from the table of statuses.
-use Rattle.std.proofs.Common.{◌≡◌, ◌==◌, ◌⊎◌, ◌∙◌, ◌<◌, ℕ, suc, Bool, true, false, cond, eqb-true, List, [], ◌∷◌, Contains, arith, ap, inl, inr, refl, subst, sym}
+use Rattle.std.proofs.Common.{◌≡◌, ◌==◌, ◌⊎◌, ◌∙◌, ℕ, suc, Bool, true, false, cond, eqb-true, List, [], ◌∷◌, Contains, arith, ap, inl, inr, refl, subst, sym}
 use Rattle.std.specs.Prelude.{Ok}
 use Rattle.cs_words.specs.declared.command.Command.{Command}
-use Rattle.cs_words.specs.declared.command.Command.TheVariants.{Mix, Part, Sim, Slow, Upgrade}
+use Rattle.cs_words.specs.declared.command.Command.TheVariants.{Mix, Part, Sim, SimContext, Slow, Upgrade}
 use Rattle.cs_words.specs.Commands.{command_of}
 use Rattle.cs_run.specs.declared.status.Status.{Status}
 use Rattle.cs_run.specs.declared.status.Status.TheVariants.{Done, NoMemory, Usage, ReadFault, WriteFault}
@@ -13,6 +13,7 @@ use Rattle.cs_run.proofs.Ends.{Finished, Unfinished}
 use Rattle.cs_run.proofs.MixLemmas.{mix_done, mix_parts_back, mix_unwritten}
 use Rattle.cs_run.proofs.PartLemmas.{part_done, part_unput}
 use Rattle.cs_run.proofs.PromiseLemmas.{complete, done_row, no_memory, of_command, others, read_fault, refused, refused_only, same_status, unrefused, usage, usage_only, write_fault, write_row}
+use Rattle.cs_run.proofs.SimContextLemmas.{context_responded, context_unput}
 use Rattle.cs_run.proofs.SimLemmas.{sim_responded, sim_unput}
 use Rattle.cs_run.proofs.SlowLemmas.{slow_done, slow_isolates, slow_output, slow_unwritten}
 use Rattle.cs_run.proofs.UpgradeLemmas.{upgrade_done, upgrade_prints, upgrade_reads_back, upgrade_unwritten}
@@ -72,6 +73,8 @@ promises run status result is ran =
           slow_isolates run slow bytes netlist input (slow_done slow run.old run.new (done run status (Slow slow) ran input.says (at Done to))) holds;
       sim_responded = λ sim says to. sim_responded sim run.old run.new (done run status (Sim sim) ran says (at Done to));
       sim_unput = λ sim says to. sim_unput sim run.old run.new (undone run status (Sim sim) ran says (at WriteFault to));
+      context_responded = λ sim says to. context_responded sim run.old run.new (done run status (SimContext sim) ran says (at Done to));
+      context_unput = λ sim says to. context_unput sim run.old run.new (undone run status (SimContext sim) ran says (at WriteFault to));
       mix_done = λ mix says to. mix_done mix run.old run.new (done run status (Mix mix) ran says (at Done to));
       mix_unwritten = λ mix says to. mix_unwritten mix run.old run.new (undone run status (Mix mix) ran says (at WriteFault to));
       mix_parts_back = λ to mix streams text has holds.

@@ -2,7 +2,7 @@
 use Rattle.std.proofs.Common.{◌≡◌, ◌≤◌, ◌<◌, ◌∙◌, Bool, true, false, cond, ℕ, List, [], ◌∷◌, length, arith, ap, inl, inr, refl, subst, sym, None, Some}
 use Rattle.std.specs.Prelude.{◌==◌, IsSome, IsSomeAnd, Option, unwrap_or}
 use Rattle.std.specs.FinMap.{get}
-use Rattle.cs_io.specs.Stores.{FileHas, Files}
+use Rattle.cs_io.specs.Stores.{Files}
 use Rattle.cs_run.specs.declared.inputs.FileName.{FileName}
 use Rattle.cs_run.specs.declared.inputs.Input.{Input}
 use Rattle.cs_run.specs.declared.inputs.Role.{Role}

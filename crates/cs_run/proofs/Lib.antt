@@ -7,6 +7,7 @@ pub mod WorldLemmas
 pub mod Ends
 pub mod SlowLemmas
 pub mod SimLemmas
+pub mod SimContextLemmas
 pub mod MixLemmas
 pub mod PartLemmas
 pub mod UpgradeLemmas

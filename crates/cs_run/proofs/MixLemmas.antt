@@ -1,5 +1,5 @@
 -- `mix`: one answer, and what stands afterwards.
-use Rattle.std.proofs.Common.{◌≡◌, ◌∙◌, ℕ, List, [], ◌∷◌, Option, None, Some, ap, arith, inl, inr, refl, subst, sym}
+use Rattle.std.proofs.Common.{◌≡◌, ◌∙◌, ℕ, List, [], ◌∷◌, Option, None, Some, ap, arith, refl, subst, sym}
 use Rattle.std.specs.Prelude.{IsSome}
 use Rattle.std.specs.FinMap.{get}
 use Rattle.cs_io.specs.Stores.{Files, StoreState}

@@ -1,10 +1,10 @@
 -- What each promise of a run takes from the table of statuses.
-use Rattle.std.proofs.Common.{◌≡◌, ◌≢◌, ◌==◌, ◌⊎◌, ◌∙◌, ◌<◌, ℕ, suc, Bool, true, false, List, [], ◌∷◌, ◌++◌, length, Contains, Option, None, Some, ap, arith, inl, inr, length-append, refl, subst, sym}
-use Rattle.std.specs.Prelude.{Err, IsSome, IsTrue, MatchResult, Ok, Result, find}
+use Rattle.std.proofs.Common.{◌≡◌, ◌==◌, ◌⊎◌, ◌∙◌, ℕ, true, false, List, [], ◌∷◌, ◌++◌, length, Option, Some, ap, arith, inl, inr, length-append, refl, subst, sym}
+use Rattle.std.specs.Prelude.{Err, IsSome, IsTrue, MatchResult, Ok, find}
 use Rattle.cs_io.specs.Faults.{Rose}
 use Rattle.cs_io.specs.Sinks.{SinkState}
-use Rattle.cs_io.specs.Stores.{Files, StoreState}
-use Rattle.cs_report.specs.declared.fault.Fault.TheVariants.{CannotRead, NoMemory as NoMemoryFault}
+use Rattle.cs_io.specs.Stores.{StoreState}
+use Rattle.cs_report.specs.declared.fault.Fault.TheVariants.{NoMemory as NoMemoryFault}
 use Rattle.cs_report.specs.FaultLines.{fault_line}
 use Rattle.cs_words.specs.declared.command.Command.{Command}
 use Rattle.cs_words.specs.declared.read.WordError.{WordError}
@@ -22,9 +22,9 @@ use Rattle.cs_run.specs.Commands.{HasInputs, HasReason, Makes, reads_of, writes_
 use Rattle.cs_run.specs.Inputs.{ReadUpTo}
 use Rattle.cs_run.specs.Promises.{CouldNotRead, CouldNotWrite, HasNoFault, HasRead, OthersStay, RefusedFiles, RefusedWords, read_names, write_names}
 use Rattle.cs_run.specs.Reasons.{Reason, StopsAt}
-use Rattle.cs_run.specs.Runs.{FailsReading, HasAnswer, IsMisused, OnlyReads, PutsRefusal, Ran, RanOutOfMemory, RanWords, Run, RunEnds, words_fault}
+use Rattle.cs_run.specs.Runs.{HasAnswer, OnlyReads, Ran, RanOutOfMemory, RanWords, Run, RunEnds, words_fault}
 use Rattle.cs_run.specs.Statuses.{all_statuses, code_of, is_of_files, status_of}
-use Rattle.cs_run.specs.Worlds.{PutsSome, PutsStop, StopsAtPut, StopsAtWrite, StopsWriting, World, after_put, after_write, after_writes, file_in}
+use Rattle.cs_run.specs.Worlds.{PutsSome, PutsStop, StopsAtPut, StopsWriting, World, after_put, after_write, after_writes, file_in}
 use Rattle.cs_run.proofs.CommandLemmas.{makes_names, never_both, one_status}
 use Rattle.cs_run.proofs.Ends.{Finished, Unfinished}
 use Rattle.cs_run.proofs.RunLemmas.{Ends, RefusedBy, Unread, ends, other_status}

@@ -14,10 +14,10 @@ use Rattle.cs_run.specs.declared.status.Status.{Status}
 use Rattle.cs_run.specs.declared.status.Status.TheVariants.{Done, NoMemory, ReadFault, WriteFault}
 use Rattle.cs_run.specs.declared.stop.Stop.{Stop}
 use Rattle.cs_run.specs.declared.stop.Stop.TheVariants.{OutOfMemory, Refused}
-use Rattle.cs_run.specs.Commands.{HasInputs, HasReason, Makes, MakesRight, Refuses, reads_of}
+use Rattle.cs_run.specs.Commands.{HasReason, Makes, MakesRight, Refuses, reads_of}
 use Rattle.cs_run.specs.Inputs.{FilesHave, FirstTooLong, ReadUpTo}
-use Rattle.cs_run.specs.Reasons.{Answers, Reason, RefusedFor}
-use Rattle.cs_run.specs.Runs.{CarriesAnswer, FailsReading, HasAnswer, HasOutcome, IsRefused, PutsRefusal, Ran, RanOutOfMemory, ReadsInput, ReadsInputs}
+use Rattle.cs_run.specs.Reasons.{Answers, Reason}
+use Rattle.cs_run.specs.Runs.{CarriesAnswer, FailsReading, HasOutcome, IsRefused, Ran, RanOutOfMemory, ReadsInput, ReadsInputs}
 use Rattle.cs_run.specs.Statuses.{is_of_files, status_of, status_unput}
 use Rattle.cs_run.specs.Worlds.{CarriesOut, PutsSome, PutsStop, World, world, after_puts, after_writes}
 use Rattle.cs_run.proofs.CommandLemmas.{makes_done}

@@ -1,5 +1,5 @@
 -- `slow`: one answer, and what stands afterwards.
-use Rattle.std.proofs.Common.{◌≡◌, ◌∙◌, ℕ, List, [], ◌∷◌, Option, None, Some, ap, arith, inl, inr, refl, subst, sym}
+use Rattle.std.proofs.Common.{◌≡◌, ◌∙◌, ℕ, List, [], ◌∷◌, None, Some, ap, arith, inl, inr, refl, subst, sym}
 use Rattle.cs_io.specs.Stores.{StoreState}
 use Rattle.cs_json.specs.Printed.{printed}
 use Rattle.cs_multiply.specs.Written.{multiplied_document, multiply_refusal}

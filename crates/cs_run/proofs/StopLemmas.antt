@@ -1,5 +1,5 @@
 -- From what calls err with to stops.
-use Rattle.std.proofs.Common.{◌≡◌, ◌≢◌, ◌∙◌, ◌⊎◌, ℕ, List, Option, None, Some, ap, inl, inr, refl, subst, sym}
+use Rattle.std.proofs.Common.{◌≡◌, ◌≢◌, ◌⊎◌, ℕ, List, Option, None, Some, ap, inl, inr, refl, subst, sym}
 use Rattle.std.specs.Prelude.{Err, IfErr, IfOk, IsErrAnd, IsTrue, Ok, Result}
 use Rattle.cs_json.specs.declared.error.DocError.{DocError}
 use Rattle.cs_json.specs.declared.error.DocError.TheVariants as json
@@ -40,6 +40,13 @@ pub implies : (P Q : Fault → Type 0) (stop : Stop) → ((fault : Fault) → P 
 implies P Q OutOfMemory more at = tt
 implies P Q (Refused refusal) more at =
     record { reason = at.reason; holds = more at.reason.fault at.holds; is = at.is }
+
+-- what is answered rightly by the one meaning is so by another that follows from it
+pub answers_implies : (IsRight IsAlsoRight : Reply → Type 0) (P Q : Fault → Type 0) (result : Result Reply Stop) →
+    ((reply : Reply) → IsRight reply → IsAlsoRight reply) → ((fault : Fault) → P fault → Q fault) → Answers IsRight P result →
+    Answers IsAlsoRight Q result
+answers_implies IsRight IsAlsoRight P Q (Ok reply) right more answers = right reply answers
+answers_implies IsRight IsAlsoRight P Q (Err stop) right more answers = implies P Q stop more answers
 
 -- where a call hands a stop on, what it answers is as the stop is
 pub handed_on : (IsRight : Reply → Type 0) (P : Fault → Type 0) (stop : Stop) (result : Result Reply Stop) → IsErrAnd result (λ e. e ≡ stop) →

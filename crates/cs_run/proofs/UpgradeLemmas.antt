@@ -1,5 +1,5 @@
 -- `upgrade`: why it stops, one answer, and what stands afterwards.
-use Rattle.std.proofs.Common.{◌≡◌, ◌≢◌, ◌∙◌, ℕ, List, [], ◌∷◌, Option, None, Some, ap, arith, refl, subst, sym}
+use Rattle.std.proofs.Common.{◌≡◌, ◌≢◌, ◌⊎◌, ◌∙◌, ℕ, List, [], ◌∷◌, None, Some, ap, arith, inl, inr, refl, subst, sym}
 use Rattle.std.specs.Prelude.{IsTrue}
 use Rattle.cs_cert.specs.declared.error.CertError.{CertError}
 use Rattle.cs_cert.specs.declared.error.CertError.TheVariants as cert
@@ -31,17 +31,27 @@ use Rattle.cs_run.proofs.WorldLemmas.{AreNamed, has_at, told_file, unwritten_one
 
 -- ---- stops
 
-paper_has : (bytes : List ℕ) (error : CertError) → (error ≡ cert.NotJson → paper_of bytes ≡ NoJson) →
-    ((at : Place) → error ≡ cert.BadShape at → paper_of bytes ≡ RefusedAt at) → status_of (cert_fault error) ≢ NoMemory →
-    SaysNoPaper bytes (cert_fault error) × IsTrue (is_of_files (status_of (cert_fault error)))
-paper_has bytes cert.NotJson not_json bad_shape other = (ap paper_fault (not_json refl), refl)
-paper_has bytes (cert.BadShape at) not_json bad_shape other = (ap paper_fault (bad_shape at refl), refl)
-paper_has bytes cert.NoMemory not_json bad_shape other = absurd (other refl)
+-- bytes that can't be read say no paper, but for want of memory
+pub unread : (bytes : List ℕ) (error : CertError) → (error ≡ cert.NotJson → paper_of bytes ≡ NoJson) →
+    ((at : Place) → error ≡ cert.BadShape at → paper_of bytes ≡ RefusedAt at) →
+    (error ≡ cert.NoMemory) ⊎ SaysNoPaper bytes (cert_fault error)
+unread bytes cert.NotJson not_json bad_shape = inr (ap paper_fault (not_json refl))
+unread bytes (cert.BadShape at) not_json bad_shape = inr (ap paper_fault (bad_shape at refl))
+unread bytes cert.NoMemory not_json bad_shape = inl refl
 
-pub paper_stop : (bytes : List ℕ) (error : CertError) (stop : Stop) → (error ≡ cert.NotJson → paper_of bytes ≡ NoJson) →
-    ((at : Place) → error ≡ cert.BadShape at → paper_of bytes ≡ RefusedAt at) → StopsAt (cert_fault error) stop → StopsFor (SaysNoPaper bytes) stop
-paper_stop bytes error stop not_json bad_shape at =
-    stops (SaysNoPaper bytes) (cert_fault error) stop at (paper_has bytes error not_json bad_shape)
+cert_of_files : (error : CertError) → status_of (cert_fault error) ≢ NoMemory → IsTrue (is_of_files (status_of (cert_fault error)))
+cert_of_files cert.NotJson other = refl
+cert_of_files (cert.BadShape at) other = refl
+cert_of_files cert.NoMemory other = absurd (other refl)
+
+paper_has : (bytes : List ℕ) (error : CertError) → (error ≡ cert.NoMemory) ⊎ SaysNoPaper bytes (cert_fault error) →
+    status_of (cert_fault error) ≢ NoMemory → SaysNoPaper bytes (cert_fault error) × IsTrue (is_of_files (status_of (cert_fault error)))
+paper_has bytes error (inl memory) other = absurd (other (ap (λ e. status_of (cert_fault e)) memory))
+paper_has bytes error (inr says) other = (says, cert_of_files error other)
+
+pub paper_stop : (bytes : List ℕ) (error : CertError) (stop : Stop) → (error ≡ cert.NoMemory) ⊎ SaysNoPaper bytes (cert_fault error) →
+    StopsAt (cert_fault error) stop → StopsFor (SaysNoPaper bytes) stop
+paper_stop bytes error stop says at = stops (SaysNoPaper bytes) (cert_fault error) stop at (paper_has bytes error says)
 
 -- ---- one answer
 

@@ -6,14 +6,15 @@ use Rattle.cs_io.specs.Stores.{Files}
 use Rattle.cs_report.specs.declared.fault.Fault.{Fault}
 use Rattle.cs_report.specs.declared.fault.Fault.TheVariants.{FileTooLong}
 use Rattle.cs_words.specs.declared.command.Command.{Command}
-use Rattle.cs_words.specs.declared.command.Command.TheVariants.{Slow, Sim, Mix, Part, Upgrade}
+use Rattle.cs_words.specs.declared.command.Command.TheVariants.{Slow, Sim, SimContext, Mix, Part, Upgrade}
 use Rattle.cs_run.specs.declared.inputs.FileName.{FileName}
 use Rattle.cs_run.specs.declared.inputs.Input.{Input}
-use Rattle.cs_run.specs.declared.inputs.Role.TheVariants.{File, In, Net, Paper, Stim}
+use Rattle.cs_run.specs.declared.inputs.Role.TheVariants.{File, Images, In, Net, Paper, Stim}
 use Rattle.cs_run.specs.declared.reply.Reply.{Reply}
 use Rattle.cs_run.specs.Inputs.{FilesHave, FirstTooLong, all_bytes, bytes_of}
 use Rattle.cs_run.specs.Slow.{BuildsIsolate, MakesSlow, RefusesSlow, slow_reads}
 use Rattle.cs_run.specs.Sim.{MakesSim, RefusesSim, sim_reads}
+use Rattle.cs_run.specs.SimContext.{MakesSimContext, RefusesSimContext, sim_context_reads}
 use Rattle.cs_run.specs.Mix.{MakesMix, MixesGiveBack, RefusesMix, mix_reads}
 use Rattle.cs_run.specs.Part.{MakesPart, RefusesPart, part_reads}
 use Rattle.cs_run.specs.Upgrade.{MakesUpgrade, RefusesUpgrade, UpgradesAlike, upgrade_reads}
@@ -24,6 +25,7 @@ use Rattle.cs_run.specs.Upgrade.{MakesUpgrade, RefusesUpgrade, UpgradesAlike, up
 abbrev pub reads_of : Command → List FileName
 reads_of (Slow words) = slow_reads words
 reads_of (Sim words) = sim_reads words
+reads_of (SimContext words) = sim_context_reads words
 reads_of (Mix words) = mix_reads words
 reads_of (Part words) = part_reads words
 reads_of (Upgrade words) = upgrade_reads words
@@ -32,6 +34,7 @@ reads_of (Upgrade words) = upgrade_reads words
 abbrev pub writes_of : Command → List (List ℕ)
 writes_of (Slow words) = words.output ∷ []
 writes_of (Sim words) = []
+writes_of (SimContext words) = []
 writes_of (Mix words) = words.output ∷ []
 writes_of (Part words) = []
 writes_of (Upgrade words) = words.new ∷ []
@@ -40,6 +43,8 @@ writes_of (Upgrade words) = words.new ∷ []
 abbrev pub Makes : Command → List Input → Reply → Type 0
 Makes (Slow words) inputs reply = MakesSlow words (bytes_of In inputs) reply
 Makes (Sim words) inputs reply = MakesSim (bytes_of Net inputs) (bytes_of Stim inputs) reply
+Makes (SimContext words) inputs reply =
+    MakesSimContext words (bytes_of Net inputs) (bytes_of Stim inputs) (bytes_of Images inputs) reply
 Makes (Mix words) inputs reply = MakesMix words (all_bytes inputs) reply
 Makes (Part words) inputs reply = MakesPart words (bytes_of File inputs) reply
 Makes (Upgrade words) inputs reply = MakesUpgrade words (bytes_of Paper inputs) reply
@@ -48,6 +53,7 @@ Makes (Upgrade words) inputs reply = MakesUpgrade words (bytes_of Paper inputs) 
 abbrev pub MakesRight : Command → List Input → Type 0
 MakesRight (Slow words) inputs = BuildsIsolate words.contexts (bytes_of In inputs)
 MakesRight (Sim words) inputs = ⊤
+MakesRight (SimContext words) inputs = ⊤
 MakesRight (Mix words) inputs = MixesGiveBack (all_bytes inputs)
 MakesRight (Part words) inputs = ⊤
 MakesRight (Upgrade words) inputs = UpgradesAlike (bytes_of Paper inputs)
@@ -56,6 +62,8 @@ MakesRight (Upgrade words) inputs = UpgradesAlike (bytes_of Paper inputs)
 abbrev pub Refuses : Command → List Input → Fault → Type 0
 Refuses (Slow words) inputs fault = RefusesSlow (bytes_of In inputs) fault
 Refuses (Sim words) inputs fault = RefusesSim (bytes_of Net inputs) (bytes_of Stim inputs) fault
+Refuses (SimContext words) inputs fault =
+    RefusesSimContext words (bytes_of Net inputs) (bytes_of Stim inputs) (bytes_of Images inputs) fault
 Refuses (Mix words) inputs fault = RefusesMix (all_bytes inputs) fault
 Refuses (Part words) inputs fault = RefusesPart (bytes_of File inputs) fault
 Refuses (Upgrade words) inputs fault = RefusesUpgrade (bytes_of Paper inputs) fault

@@ -3,7 +3,7 @@ use Rattle.std.specs.Prelude.{ℕ, ◌<◌, ◌≤◌, ◌≡◌, ◌==◌, ◌�
 use Rattle.std.specs.FinMap as map
 use Rattle.cs_io.specs.Stores.{Files, FileHas}
 use Rattle.cs_run.specs.declared.inputs.Role.{Role}
-use Rattle.cs_run.specs.declared.inputs.Role.TheVariants.{In, Net, Stim, Stream, File, Paper}
+use Rattle.cs_run.specs.declared.inputs.Role.TheVariants.{In, Net, Stim, Images, Stream, File, Paper}
 use Rattle.cs_run.specs.declared.inputs.FileName.{FileName}
 use Rattle.cs_run.specs.declared.inputs.Input.{Input}
 
@@ -13,9 +13,10 @@ abbrev pub number_of : Role → ℕ
 number_of In = 0
 number_of Net = 1
 number_of Stim = 2
-number_of Stream = 3
-number_of File = 4
-number_of Paper = 5
+number_of Images = 3
+number_of Stream = 4
+number_of File = 5
+number_of Paper = 6
 
 -- the file of a role
 abbrev pub file : Role → List ℕ → FileName

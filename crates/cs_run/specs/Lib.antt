@@ -7,6 +7,7 @@ pub mod Rows
 pub mod Worlds
 pub mod Slow
 pub mod Sim
+pub mod SimContext
 pub mod Mix
 pub mod Part
 pub mod Upgrade

@@ -8,9 +8,10 @@ use Rattle.cs_io.specs.Stores.{Files}
 use Rattle.cs_report.specs.declared.fault.Fault.TheVariants.{CannotRead}
 use Rattle.cs_report.specs.FaultLines.{fault_line}
 use Rattle.cs_words.specs.declared.command.Command.{Command}
-use Rattle.cs_words.specs.declared.command.Command.TheVariants.{Mix, Part, Sim, Slow, Upgrade}
+use Rattle.cs_words.specs.declared.command.Command.TheVariants.{Mix, Part, Sim, SimContext, Slow, Upgrade}
 use Rattle.cs_words.specs.declared.command.MixWords.{MixWords}
 use Rattle.cs_words.specs.declared.command.PartWords.{PartWords}
+use Rattle.cs_words.specs.declared.command.SimContextWords.{SimContextWords}
 use Rattle.cs_words.specs.declared.command.SimWords.{SimWords}
 use Rattle.cs_words.specs.declared.command.SlowWords.{SlowWords}
 use Rattle.cs_words.specs.declared.command.UpgradeWords.{UpgradeWords}
@@ -26,10 +27,11 @@ use Rattle.cs_run.specs.Part.{CouldNotPutPart, HasParted}
 use Rattle.cs_run.specs.Reasons.{Reason}
 use Rattle.cs_run.specs.Runs.{FailsReading, HasAnswer, RanOutOfMemory, Run, words_fault}
 use Rattle.cs_run.specs.Sim.{CouldNotRespond, HasResponded}
+use Rattle.cs_run.specs.SimContext.{CouldNotRespondContext, HasRespondedContext}
 use Rattle.cs_run.specs.Slow.{CouldNotWriteOut, HasWritten, IsBuilt}
 use Rattle.cs_run.specs.Statuses.{all_codes, code_of, is_of_files, status_of}
 use Rattle.cs_run.specs.Upgrade.{CouldNotWriteNew, HasUpgraded}
-use Rattle.cs_run.specs.Worlds.{PutsSome, StopsAtPut, StopsAtWrite, World, after_writes, file_in}
+use Rattle.cs_run.specs.Worlds.{PutsSome, StopsAtPut, StopsAtWrite, after_writes, file_in}
 
 -- ---- names
 
@@ -150,6 +152,9 @@ pub record Promises (run : Run) (result : ℕ) : Type 0 where
   -- `sim` at status 0: the printed rows that the netlist of NET answers to the rows of STIM are put
   pub sim_responded : (sim : SimWords) → command_of run.words ≡ Ok (Sim sim) → result ≡ 0 → HasResponded sim run.old run.new
   pub sim_unput : (sim : SimWords) → command_of run.words ≡ Ok (Sim sim) → result ≡ 4 → CouldNotRespond sim run.old run.new
+  -- `sim-context` at status 0: the same of the netlist with the starts of context K, by the images of IMAGES
+  pub context_responded : (sim : SimContextWords) → command_of run.words ≡ Ok (SimContext sim) → result ≡ 0 → HasRespondedContext sim run.old run.new
+  pub context_unput : (sim : SimContextWords) → command_of run.words ≡ Ok (SimContext sim) → result ≡ 4 → CouldNotRespondContext sim run.old run.new
   -- `mix` at status 0: OUT holds the printed rows of the streams in turn, of which `part` gives each stream's back
   pub mix_done : (mix : MixWords) → command_of run.words ≡ Ok (Mix mix) → result ≡ 0 → HasMixed mix run.old run.new
   pub mix_unwritten : (mix : MixWords) → command_of run.words ≡ Ok (Mix mix) → result ≡ 4 → CouldNotWriteMixed mix run.old run.new

@@ -18,29 +18,45 @@ use Rattle.cs_run.specs.Reasons.{Answers, HasNoRows}
 use Rattle.cs_run.specs.Replies.{putting}
 use Rattle.cs_run.specs.Worlds.{FailsPutting, Holds, PutsOnly, World}
 
--- ---- bytes
+-- ---- a netlist
 
--- the text of the one answer of the netlist of NET, from its own start, to the rows of STIM
-pub record IsResponse (bytes stim text : List ℕ) : Type 0 where
-  pub net : Net
-  pub of_net : IsNetlistOf bytes net
+-- the text of the one answer of a netlist, from its own start, to the rows that STIM says
+pub record IsAnswered (net : Net) (stim text : List ℕ) : Type 0 where
   pub faultless : stimulus_fault (length (data_inputs net)) stim ≡ None
   pub rows : List Row
   pub answers : AnswersRows net (state_of (own_start net)) (stimulus_rows stim) rows
   pub only : (other : List Row) → AnswersRows net (state_of (own_start net)) (stimulus_rows stim) other → other ≡ rows
   pub is : text ≡ response_text rows
 
+-- that text is put
+pub record PutsAnswer (net : Net) (stim : List ℕ) (reply : Reply) : Type 0 where
+  pub text : List ℕ
+  pub answered : IsAnswered net stim text
+  pub is : reply ≡ putting text
+
+-- STIM says no rows of a netlist
+abbrev pub HasNoStimulus : Net → List ℕ → Fault → Type 0
+HasNoStimulus net stim fault = HasNoRows (stimulus_fault (length (data_inputs net)) stim) fault
+
+-- ---- bytes
+
+-- the same of the netlist of NET
+pub record IsResponse (bytes stim text : List ℕ) : Type 0 where
+  pub net : Net
+  pub of_net : IsNetlistOf bytes net
+  pub answered : IsAnswered net stim text
+
 -- the response is put
 pub record MakesSim (bytes stim : List ℕ) (reply : Reply) : Type 0 where
-  pub text : List ℕ
-  pub responds : IsResponse bytes stim text
-  pub is : reply ≡ putting text
+  pub net : Net
+  pub of_net : IsNetlistOf bytes net
+  pub puts : PutsAnswer net stim reply
 
 -- STIM says no rows of the netlist of NET
 pub record SaysNoStimulus (bytes stim : List ℕ) (fault : Fault) : Type 0 where
   pub net : Net
   pub of_net : IsNetlistOf bytes net
-  pub no_rows : HasNoRows (stimulus_fault (length (data_inputs net)) stim) fault
+  pub no_rows : HasNoStimulus net stim fault
 
 -- the files are refused because of this fault
 abbrev pub RefusesSim : List ℕ → List ℕ → Fault → Type 0

@@ -7,6 +7,7 @@ ghost use Rattle.cs_run.specs.Reasons.{Answers};
 ghost use Rattle.cs_run.specs.Runs.{HasOutcome, Ran};
 ghost use Rattle.cs_run.specs.Worlds.{world};
 
+use crate::context::answer_sim_context;
 use crate::finish::{carry_out, put_stop};
 use crate::inputs::{FileName, Input, Role, bytes_of, file, read_inputs};
 use crate::mixing::answer_mix;
@@ -32,6 +33,11 @@ fn reads_of(alloc: Global, command: &Command) -> Result<Sequence<FileName>, Allo
             let reads = one_file(alloc, Role::Net, &words.net)?;
             and_file(alloc, reads, Role::Stim, &words.stim)
         },
+        Command::SimContext(words) => {
+            let reads = one_file(alloc, Role::Net, &words.net)?;
+            let reads = and_file(alloc, reads, Role::Stim, &words.stim)?;
+            and_file(alloc, reads, Role::Images, &words.images)
+        },
         Command::Mix(words) => files_of(alloc, Role::Stream, words.streams.as_slice()),
         Command::Part(words) => one_file(alloc, Role::File, &words.file),
         Command::Upgrade(words) => one_file(alloc, Role::Paper, &words.old),
@@ -52,6 +58,13 @@ fn answer_inputs(alloc: Global, command: &Command, inputs: &[Input]) -> Result<R
             alloc,
             bytes_of(Role::Net, inputs),
             bytes_of(Role::Stim, inputs),
+        ),
+        Command::SimContext(words) => answer_sim_context(
+            alloc,
+            words,
+            bytes_of(Role::Net, inputs),
+            bytes_of(Role::Stim, inputs),
+            bytes_of(Role::Images, inputs),
         ),
         Command::Mix(words) => answer_mix(alloc, words, inputs),
         Command::Part(words) => answer_part(alloc, words, bytes_of(Role::File, inputs)),

@@ -20,6 +20,7 @@ pub enum Role {
     In,
     Net,
     Stim,
+    Images,
     /// One of the streams that are mixed.
     Stream,
     File,

@@ -3,6 +3,7 @@
 #![tactic(auto)]
 
 mod commands;
+mod context;
 mod finish;
 mod in_memory;
 mod inputs;
@@ -19,6 +20,7 @@ mod stop;
 mod upgrading;
 
 pub use commands::{answer_command, run_command};
+pub use context::answer_sim_context;
 pub use finish::{carry_out, put_stop};
 pub use in_memory::run_in_memory;
 pub use inputs::{FileName, Input, Role, bytes_of, file, found_bytes, read_input, read_inputs};

@@ -1,9 +1,9 @@
 // The command `sim`.
 ghost use Rattle.std.specs.Prelude.{IfOk, length};
 ghost use Rattle.cs_net.specs.Drivers.{data_inputs};
-ghost use Rattle.cs_run.specs.Bytes.{IsNetlistOf};
+ghost use Rattle.cs_run.specs.Reasons.{Answers};
 ghost use Rattle.cs_run.specs.Rows.{AreRowsOf};
-ghost use Rattle.cs_run.specs.Sim.{AnswersSim, MakesSim};
+ghost use Rattle.cs_run.specs.Sim.{AnswersSim, HasNoStimulus, PutsAnswer};
 
 use crate::netlists::read_netlist;
 use crate::reply::{Reply, putting};
@@ -19,29 +19,26 @@ pub fn answer_sim(alloc: Global, bytes: &[u8], stim: &[u8]) -> Result<Reply, Sto
     ensures { AnswersSim bytes.now stim.now result }
 {
     let net = read_netlist(alloc, bytes)?;
-    answer_stimulus(alloc, bytes, &net, stim)
+    answer_stimulus(alloc, &net, stim)
 }
 
-fn answer_stimulus(alloc: Global, bytes: &[u8], net: &Netlist, stim: &[u8]) -> Result<Reply, Stop>
-    requires { IsNetlistOf bytes.now net.now }
-    ensures { AnswersSim bytes.now stim.now result }
+/// The rows that a netlist answers, from its own start, to those that the bytes of STIM say.
+pub(crate) fn answer_stimulus(alloc: Global, net: &Netlist, stim: &[u8]) -> Result<Reply, Stop>
+    ensures { Answers (PutsAnswer net.now stim.now) (HasNoStimulus net.now stim.now) result }
 {
     let rows = read_rows(alloc, stim, net.input_count())?;
-    Ok(put_response(alloc, bytes, net, stim, &rows)?)
+    Ok(put_response(alloc, net, stim, &rows)?)
 }
 
 fn put_response(
     alloc: Global,
-    bytes: &[u8],
     net: &Netlist,
     stim: &[u8],
     rows: &Stimulus,
 ) -> Result<Reply, AllocError>
-    requires of_net { IsNetlistOf bytes.now net.now }
-    requires rows { AreRowsOf (length (data_inputs net.now)) stim.now rows.now }
-    ensures { IfOk result (MakesSim bytes.now stim.now) }
+    requires { AreRowsOf (length (data_inputs net.now)) stim.now rows.now }
+    ensures { IfOk result (PutsAnswer net.now stim.now) }
 {
-    let _ = bytes;
     let _ = stim;
     let answer = respond(alloc, net, rows)?;
     let text = print_response(alloc, &answer)?;

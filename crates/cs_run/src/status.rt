@@ -18,6 +18,7 @@ pub enum Status {
     Limit = 8,
     StimulusFault = 11,
     CertificateFault = 12,
+    ImagesFault = 13,
     NotBuilt = 99,
 }
 
@@ -57,6 +58,10 @@ pub fn status_of(fault: &Fault) -> Status
         Fault::StimulusWidth { .. } | Fault::StimulusCharacter { .. } | Fault::StimulusUneven(_) =>
             Status::StimulusFault,
         Fault::CertificateNotJson | Fault::CertificateShape(_) => Status::CertificateFault,
+        Fault::ImagesNotJson
+        | Fault::ImagesShape(_)
+        | Fault::ImagesName(_)
+        | Fault::ImagesCount { .. } => Status::ImagesFault,
         Fault::NotBuilt | Fault::NotBuiltCell(_) => Status::NotBuilt,
     }
 }

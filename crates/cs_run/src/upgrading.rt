@@ -1,12 +1,12 @@
 // The command `upgrade`.
-ghost use Rattle.std.specs.Prelude.{◌≡◌, IfOk};
-ghost use Rattle.cs_cert.specs.PaperShape.{Says, paper_of};
-ghost use Rattle.cs_cert.specs.Papers.{IsInRange};
-ghost use Rattle.cs_run.specs.Upgrade.{AnswersUpgrade, MakesUpgrade, UpgradesAlike, cert_fault};
+ghost use Rattle.std.specs.Prelude.{◌≡◌, ◌⊎◌, IfErr, IfOk};
+ghost use Rattle.cs_cert.specs.PaperShape.{paper_of};
+ghost use Rattle.cs_cert.specs.declared.error.CertError.TheVariants.{NoMemory};
+ghost use Rattle.cs_run.specs.Upgrade.{AnswersUpgrade, IsUpgraded, MakesUpgrade, SaysNoPaper, UpgradesAlike, cert_fault};
 
 use crate::reply::{Reply, unwritten_line, writing};
 use crate::stop::{Stop, stop_at};
-use cs_cert::{CertError, Paper, print_certificate, read_certificate};
+use cs_cert::{CertError, print_certificate, read_certificate};
 use cs_report::Fault;
 use cs_words::UpgradeWords;
 use std::alloc::{AllocError, Global};
@@ -16,10 +16,20 @@ use std::alloc::{AllocError, Global};
 pub fn answer_upgrade(alloc: Global, words: &UpgradeWords, bytes: &[u8]) -> Result<Reply, Stop>
     ensures { AnswersUpgrade words.now bytes.now result }
 {
-    match read_certificate(alloc, bytes) {
-        Ok(paper) => Ok(write_upgraded(alloc, words, bytes, &paper)?),
+    match upgraded(alloc, bytes) {
+        Ok(text) => Ok(write_upgraded(alloc, words, bytes, text)?),
         Err(error) => Err(stop_at(alloc, cert_fault(error))),
     }
+}
+
+// The text of the paper that the bytes say.
+fn upgraded(alloc: Global, bytes: &[u8]) -> Result<Vec<u8>, CertError>
+    ensures ok { IfOk result (λ text. IsUpgraded bytes.now text.items) }
+    ensures alike { IfOk result (λ text. paper_of text.items ≡ paper_of bytes.now) }
+    ensures err { IfErr result (λ error. (error ≡ NoMemory) ⊎ SaysNoPaper bytes.now (cert_fault error)) }
+{
+    let paper = read_certificate(alloc, bytes)?;
+    Ok(print_certificate(alloc, &paper)?)
 }
 
 fn cert_fault(error: CertError) -> Fault
@@ -36,14 +46,13 @@ fn write_upgraded(
     alloc: Global,
     words: &UpgradeWords,
     bytes: &[u8],
-    paper: &Paper,
+    text: Vec<u8>,
 ) -> Result<Reply, AllocError>
-    requires says { paper_of bytes.now ≡ Says paper.now }
-    requires range { IsInRange paper.now }
+    requires is { IsUpgraded bytes.now text.items }
+    requires alike { paper_of text.items ≡ paper_of bytes.now }
     ensures { IfOk result (λ reply. MakesUpgrade words.now bytes.now reply × UpgradesAlike bytes.now) }
 {
     let _ = bytes;
-    let text = print_certificate(alloc, paper)?;
     let line = unwritten_line(alloc, &words.new)?;
     writing(alloc, &words.new, text, line)
 }

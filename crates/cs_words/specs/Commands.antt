@@ -5,7 +5,7 @@ use Rattle.std.specs.Str.{bytes_eq}
 use Rattle.std.specs.Option.{option_map}
 use Rattle.std.specs.declared.alloc.Global.{Global}
 use Rattle.cs_words.specs.declared.command.Command.{Command}
-use Rattle.cs_words.specs.declared.command.Command.TheVariants.{Slow, Sim, Mix, Part, Upgrade}
+use Rattle.cs_words.specs.declared.command.Command.TheVariants.{Slow, Sim, SimContext, Mix, Part, Upgrade}
 use Rattle.cs_words.specs.declared.read.WordError.{WordError}
 use Rattle.cs_words.specs.declared.read.WordError.TheVariants.{NoCommand, BadWords, NoMemory}
 use Rattle.cs_words.specs.Numbers.{contexts_of, context_of}
@@ -32,6 +32,18 @@ slow_of _ = None
 abbrev pub sim_of : List (List ℕ) → Option Command
 sim_of (net ∷ stim ∷ []) = Some (Sim (record { net = net; stim = stim }))
 sim_of _ = None
+
+-- the files and a context of a number of contexts
+abbrev pub context_in : ℕ → List ℕ → List ℕ → List ℕ → List ℕ → Option Command
+context_in contexts net stim images place =
+    option_map
+    (λ k. SimContext (record { net = net; stim = stim; images = images; k = k; contexts = contexts }))
+    (context_of contexts place)
+
+abbrev pub sim_context_of : List (List ℕ) → Option Command
+sim_context_of (net ∷ stim ∷ images ∷ place ∷ count ∷ []) =
+    option_and_then (λ contexts. context_in contexts net stim images place) (contexts_of count)
+sim_context_of _ = None
 
 -- there are 1 to 16 streams
 abbrev pub are_streams : List (List ℕ) → Bool
@@ -67,10 +79,11 @@ command_of [] = Err NoCommand
 command_of (name ∷ words) =
     if bytes_eq name (codes "slow") then said_by name (slow_of words)
     else (if bytes_eq name (codes "sim") then said_by name (sim_of words)
+    else (if bytes_eq name (codes "sim-context") then said_by name (sim_context_of words)
     else (if bytes_eq name (codes "mix") then said_by name (mix_of words)
     else (if bytes_eq name (codes "part") then said_by name (part_of words)
     else (if bytes_eq name (codes "upgrade") then said_by name (upgrade_of words)
-    else Err NoCommand))))
+    else Err NoCommand)))))
 
 -- what reading the words answers: just what they say, unless memory ran out
 abbrev pub Reads : Result Command WordError → Result Command WordError → Type 0
@@ -79,10 +92,11 @@ Reads said (Err NoCommand) = said ≡ Err NoCommand
 Reads said (Err (BadWords command)) = said ≡ Err (BadWords command)
 Reads said (Err NoMemory) = ⊤
 
--- `mix` has 1 to 16 streams, and `part` a place below the number of its parts
+-- `mix` has 1 to 16 streams, and `sim-context` and `part` a place below their number of contexts
 abbrev pub IsWithin : Command → Type 0
 IsWithin (Slow words) = ⊤
 IsWithin (Sim words) = ⊤
+IsWithin (SimContext words) = words.k < words.contexts
 IsWithin (Mix words) = (1 ≤ length words.streams) × (length words.streams ≤ 16)
 IsWithin (Part words) = words.k < words.contexts
 IsWithin (Upgrade words) = ⊤

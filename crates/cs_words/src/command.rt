@@ -6,6 +6,7 @@ use cs_base::{Contexts, Sequence, Text};
 pub enum Command {
     Slow(SlowWords),
     Sim(SimWords),
+    SimContext(SimContextWords),
     Mix(MixWords),
     Part(PartWords),
     Upgrade(UpgradeWords),
@@ -26,6 +27,16 @@ pub struct SlowWords {
 pub struct SimWords {
     pub net: Text,
     pub stim: Text,
+}
+
+/// `sim-context NET STIM IMAGES K C`, with K below C
+#[derive(Debug, Drop)]
+pub struct SimContextWords {
+    pub net: Text,
+    pub stim: Text,
+    pub images: Text,
+    pub k: u32,
+    pub contexts: Contexts,
 }
 
 /// `mix OUT STREAMS`, with 1 to 16 streams

@@ -1,8 +1,10 @@
 // The form of each command's words behind its name.
 ghost use Rattle.std.specs.Prelude.{◌≡◌, IfOk, IfSome};
-ghost use Rattle.cs_words.specs.Commands.{are_of_slow, texts, slow_of, sim_of, mix_of, part_of, upgrade_of, IsWithin};
+ghost use Rattle.cs_words.specs.Commands.{are_of_slow, texts, slow_of, sim_of, sim_context_of, mix_of, part_of, upgrade_of, IsWithin};
 
-use crate::command::{Command, MixWords, PartWords, SimWords, SlowWords, UpgradeWords};
+use crate::command::{
+    Command, MixWords, PartWords, SimContextWords, SimWords, SlowWords, UpgradeWords,
+};
 use crate::number::{read_context, read_contexts};
 use cs_base::{Contexts, Sequence, Text};
 use std::alloc::{AllocError, Global};
@@ -76,6 +78,35 @@ pub(crate) fn read_sim(alloc: Global, words: &[String]) -> Result<Option<Command
     let net = Text::from_str(alloc, net.as_str())?;
     let stim = Text::from_str(alloc, stim.as_str())?;
     Ok(Some(Command::Sim(SimWords { net, stim })))
+}
+
+/// `NET STIM IMAGES K C`, with C from 1 to 16 and K below C.
+pub(crate) fn read_sim_context(
+    alloc: Global,
+    words: &[String],
+) -> Result<Option<Command>, AllocError>
+    ensures said { IfOk result (λ said. said ≡ sim_context_of (texts words.now)) }
+    ensures within { IfOk result (λ said. IfSome said IsWithin) }
+{
+    let [net, stim, images, place, count] = words else {
+        return Ok(None);
+    };
+    let Some(contexts) = read_contexts(count.as_bytes()) else {
+        return Ok(None);
+    };
+    let Some(k) = read_context(place.as_bytes(), contexts) else {
+        return Ok(None);
+    };
+    let net = Text::from_str(alloc, net.as_str())?;
+    let stim = Text::from_str(alloc, stim.as_str())?;
+    let images = Text::from_str(alloc, images.as_str())?;
+    Ok(Some(Command::SimContext(SimContextWords {
+        net,
+        stim,
+        images,
+        k,
+        contexts,
+    })))
 }
 
 /// `OUT STREAMS`, with 1 to 16 streams.

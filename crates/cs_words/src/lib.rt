@@ -6,5 +6,7 @@ mod forms;
 mod number;
 mod read;
 
-pub use command::{Command, MixWords, PartWords, SimWords, SlowWords, UpgradeWords};
+pub use command::{
+    Command, MixWords, PartWords, SimContextWords, SimWords, SlowWords, UpgradeWords,
+};
 pub use read::{WordError, read_words};

@@ -6,7 +6,7 @@ ghost use Rattle.cs_words.specs.Commands.{texts, command_of, said_by, IsWithin, 
 ghost use Rattle.cs_words.specs.declared.read.WordError.TheVariants.{BadWords, NoMemory};
 
 use crate::command::Command;
-use crate::forms::{read_mix, read_part, read_sim, read_slow, read_upgrade};
+use crate::forms::{read_mix, read_part, read_sim, read_sim_context, read_slow, read_upgrade};
 use cs_base::Text;
 use std::alloc::{AllocError, Global};
 
@@ -28,9 +28,10 @@ impl From<AllocError> for WordError {
     }
 }
 
-/// The command that the words say. `NoCommand` comes exactly where the first word names none of `slow`, `sim`, `mix`, `part`
-/// and `upgrade`, or there is none. `BadWords` comes exactly where it names one and the others are not
+/// The command that the words say. `NoCommand` comes exactly where the first word names none of `slow`, `sim`, `sim-context`,
+/// `mix`, `part` and `upgrade`, or there is none. `BadWords` comes exactly where it names one and the others are not
 /// `IN OUT CERT DELAYS -c C` of `slow`, with different words OUT and CERT and C from 1 to 16; `NET STIM` of `sim`;
+/// `NET STIM IMAGES K C` of `sim-context`, with C from 1 to 16 and K below C;
 /// `OUT STREAMS` of `mix`, with 1 to 16 streams; `K C FILE` of `part`, with C from 1 to 16 and K below C; or `OLD NEW` of
 /// `upgrade`.
 /// A number is 1 to 20 decimal digits.
@@ -54,6 +55,9 @@ fn read_command(alloc: Global, name: &str, others: &[String]) -> Result<Command,
     }
     if name == "sim" {
         return said_by(alloc, name, read_sim(alloc, others));
+    }
+    if name == "sim-context" {
+        return said_by(alloc, name, read_sim_context(alloc, others));
     }
     if name == "mix" {
         return said_by(alloc, name, read_mix(alloc, others));

@@ -1,4 +1,6 @@
-use Rattle.cs_run.proofs.AnswerLemmas.{mix_answers, mix_counts, part_answers, sim_answers, slow_answers, upgrade_answers}
+use Rattle.std.proofs.Common.{subst}
+use Rattle.cs_words.specs.Commands.{IsWithin}
+use Rattle.cs_run.proofs.AnswerLemmas.{mix_answers, mix_counts, part_answers, sim_answers, sim_context_answers, slow_answers, upgrade_answers}
 use Rattle.cs_run.proofs.commands.answer_inputs.Goals as goal
 
 pub answer_mix-requires-clause-some : goal.answer_mix-requires-clause-some
@@ -31,3 +33,12 @@ pub returns-in-Upgrade : goal.returns-in-Upgrade
 returns-in-Upgrade c =
     upgrade_answers c.args.command.now c.in-Upgrade.words c.args.inputs.now c.bytes_of-in-Upgrade.result.now c.answer_upgrade.result c.in-Upgrade.is
     c.bytes_of-in-Upgrade.ensures c.answer_upgrade.ensures
+
+pub answer_sim_context-requires : goal.answer_sim_context-requires
+answer_sim_context-requires c = subst IsWithin c.in-SimContext.is c.requires.within
+
+pub returns-in-SimContext : goal.returns-in-SimContext
+returns-in-SimContext c =
+    sim_context_answers c.args.command.now c.in-SimContext.words c.args.inputs.now c.bytes_of-in-SimContext.result.now
+    c.bytes_of-in-SimContext-2.result.now c.bytes_of-in-SimContext-3.result.now c.answer_sim_context.result c.in-SimContext.is
+    c.bytes_of-in-SimContext.ensures c.bytes_of-in-SimContext-2.ensures c.bytes_of-in-SimContext-3.ensures c.answer_sim_context.ensures

@@ -4,7 +4,7 @@ use Rattle.cs_net.specs.Netlist.{state_of}
 use Rattle.cs_net.specs.Trace.{Answers, Row}
 use Rattle.cs_stream.specs.Rows.{rows_of}
 use Rattle.cs_run.specs.Replies.{putting}
-use Rattle.cs_run.specs.Sim.{MakesSim}
+use Rattle.cs_run.specs.Sim.{PutsAnswer}
 use Rattle.cs_run.proofs.StopLemmas.{if_reply}
 use Rattle.cs_run.proofs.simulation.put_response.Goals as goal
 
@@ -14,16 +14,14 @@ returns c =
     let from = state_of (own_start net) in
     let rows = rows_of c.in_ok-answer.answer in
     let OneAnswer : List Row → Type 0 = λ asked. (other : List Row) → Answers net from asked other → other ≡ rows in
-    if_reply (MakesSim c.args.bytes.now c.args.stim.now) c.putting.result (putting c.in_ok-text.text.items)
+    if_reply (PutsAnswer net c.args.stim.now) c.putting.result (putting c.in_ok-text.text.items)
     (record {
       text = c.in_ok-text.text.items;
-      responds = record {
-        net = net;
-        of_net = c.requires.of_net;
-        faultless = c.requires.rows.faultless;
+      answered = record {
+        faultless = c.requires.faultless;
         rows = rows;
-        answers = subst (λ asked. Answers net from asked rows) c.requires.rows.are c.in_ok-answer.ensures.answers;
-        only = subst OneAnswer c.requires.rows.are c.in_ok-answer.ensures.only;
+        answers = subst (λ asked. Answers net from asked rows) c.requires.are c.in_ok-answer.ensures.answers;
+        only = subst OneAnswer c.requires.are c.in_ok-answer.ensures.only;
         is = c.in_ok-text.ensures.text;
       };
       is = refl;
