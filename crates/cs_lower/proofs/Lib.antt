@@ -25,3 +25,6 @@ pub mod WriteLemmas
 pub mod WriteValues
 pub mod MemoryCells
 pub mod NextLemmas
+pub mod PaddedWords
+pub mod RingBits
+pub mod InputPlaces
