@@ -28,3 +28,7 @@ pub mod NextLemmas
 pub mod PaddedWords
 pub mod RingBits
 pub mod InputPlaces
+pub mod ShownTaps
+pub mod SettledBits
+pub mod HeldStates
+pub mod KeepsAnswers

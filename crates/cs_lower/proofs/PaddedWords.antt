@@ -1,14 +1,16 @@
 -- Words with words of 0 behind them: reads past the words give 0 in both, and the writes of a bounded run are the same.
 use Rattle.std.specs.Prelude.{min, not, if◌then◌else◌}
-use Rattle.std.proofs.Common.{◌≡◌, ℕ, zero, suc, ◌+◌, ◌-◌, ◌*◌, ◌<◌, ◌≤◌, Bool, true, false, List, [], ◌∷◌, ◌++◌, length, map, get_or, set, fold, take, drop, replicate, flat_map, refl, sym, ap, ap₂, ◌∙◌, arith, inl, inr}
+use Rattle.std.proofs.Common.{◌≡◌, ℕ, zero, suc, ◌+◌, ◌-◌, ◌*◌, ◌^◌, ◌<◌, ◌≤◌, Bool, true, false, List, [], ◌∷◌, ◌++◌, length, map, get_or, set, fold, take, drop, replicate, flat_map, Some, refl, sym, ap, ap₂, ◌∙◌, arith, inl, inr}
 use Rattle.std.proofs.Math.Seq.{drop-append_seam, take-append_seam}
 use Rattle.std.proofs.lemmas.Bool.{cases_lt, le-ltb, lt-ltb}
 use Rattle.std.proofs.lemmas.Int.{clamps, ints}
 use Rattle.std.proofs.lemmas.List.{append_assoc, get_or-append_right, get_or-replicate, get_or_append_left, get_or_past, length-append, length-map, length-replicate, length-set, replicate-append-replicate, set-append_left, set_past}
-use Rattle.cs_cells.specs.Memories.{Word, Words, Write, after_write, after_writes, merged_word, number_of, read_bit, word_at}
+use Rattle.cs_cells.specs.declared.memory.MemShape.{MemShape}
+use Rattle.cs_cells.specs.Memories.{Word, Words, Write, after_write, after_writes, merged_word, number_of, read_bit, word_at, word_count}
 use Rattle.cs_graph.specs.declared.memory.Memory.{Memory}
-use Rattle.cs_graph.specs.Run.{taken_in, words_from}
-use Rattle.cs_lower.specs.Lowered.{filled}
+use Rattle.cs_graph.specs.Run.{start_words, taken_in, words_from}
+use Rattle.cs_net.specs.declared.state.MemoryWords.{MemoryWords}
+use Rattle.cs_lower.specs.Lowered.{filled, memory_of}
 
 -- words, and so many more behind them, each of so many bits of 0
 abbrev pub padded : ℕ → ℕ → Words → Words
@@ -174,3 +176,40 @@ start_padded count k more width words same sum =
     let rest : count - length words ≡ more = omega (arith, sum, many_words k width words same) in
     ap (λ n. words_from count width (flat_map (λ w. w) words ++ replicate (n * width) false)) rest
     ∙ words_cut count k more width words same sum
+
+-- ---- the memories of the graph of a netlist
+
+-- a memory holds these words, and words of 0 behind them
+pub record IsPadded (m : Memory) (held words : Words) : Type 0 where
+  pub more : ℕ
+  pub room : HasRoom m more words
+  pub is : held ≡ padded more m.width words
+
+-- it starts so
+pub starts_padded : (own : MemoryWords) (shape : MemShape)
+    → map length own.words ≡ replicate (word_count shape) shape.width
+    → IsPadded (memory_of (own, shape)) (start_words (Some (memory_of (own, shape)))) own.words
+starts_padded own shape wide =
+    let more : ℕ = 2 ^ shape.abits - word_count shape in
+    let many : length own.words ≡ word_count shape = many_words (word_count shape) shape.width own.words wide in
+    let sum : 2 ^ shape.abits ≡ word_count shape + more = omega (arith, ints, clamps) in
+    record {
+      more = more;
+      room = record { own = many; all = ap (λ n. n + more) many ∙ sym sum };
+      is = start_padded (2 ^ shape.abits) (word_count shape) more shape.width own.words wide sum;
+    }
+
+-- reads see the words alone
+pub reads_padded : (m : Memory) (held words : Words) → IsPadded m held words → (address : List Bool) (place : ℕ)
+    → read_bit held address place ≡ read_bit words address place
+reads_padded m held words is address place =
+    ap (λ now. read_bit now address place) is.is ∙ read_padded is.more m.width words address place
+
+-- and it goes on so
+pub stays_padded : (m : Memory) (held words : Words) (ws : List Write) → IsPadded m held words
+    → IsPadded m (fold (taken_in true m) held ws) (after_writes ws words)
+stays_padded m held words ws is = record {
+  more = is.more;
+  room = room_after_all m is.more words ws is.room;
+  is = ap (λ now. fold (taken_in true m) now ws) is.is ∙ writes_padded m is.more m.width words ws is.room;
+}
