@@ -108,15 +108,14 @@ module _ (net : Net) (w : IsWellFormed net) (clocks : ℕ) (row : ℕ → Row) (
     all_held (suc n) within =
         stays_held n (omega (arith, within)) (state_of_run net value n) (all_held n (omega (arith, within)))
 
-    pub all_settle : (n : ℕ) (h : n < clocks) → Settles net (row n) (state_of_run net value n) (shown_bits net value n)
+    all_settle : (n : ℕ) (h : n < clocks) → Settles net (row n) (state_of_run net value n) (shown_bits net value n)
     all_settle n h =
         bits_settle net w clocks row value words run n h (state_of_run net value n) (all_held n (omega (arith, h)))
 
 -- the run is a trace of the netlist from its own start
 pub trace_of_run : (net : Net) (w : IsWellFormed net) (rows : List Row) (value : ℕ → Outs) (words : ℕ → ℕ → Words)
     → (run : RunsFor true (lowered net) (length rows) (row_of rows) value words)
-    → IsTrace net (state_of (own_start net)) rows (shown_bits net value)
-    (state_of_run net value)
+    → IsTrace net (state_of (own_start net)) rows (shown_bits net value) (state_of_run net value)
 trace_of_run net w rows value words run = record {
   begins = refl;
   settles = all_settle net w (length rows) (row_of rows) value words run;

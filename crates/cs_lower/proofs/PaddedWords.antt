@@ -41,7 +41,7 @@ bit_of_more more width k place = elim (cases_lt k more) [
       (omega (arith, past, length-replicate more (replicate width false))))
 ]
 
-pub read_padded : (more width : ℕ) (words : Words) (address : List Bool) (place : ℕ)
+read_padded : (more width : ℕ) (words : Words) (address : List Bool) (place : ℕ)
     → read_bit (padded more width words) address place ≡ read_bit words address place
 unfolding read_bit
 read_padded more width words address place = elim (cases_lt (number_of address) (length words)) [
@@ -57,7 +57,7 @@ read_padded more width words address place = elim (cases_lt (number_of address) 
 
 -- ---- writes
 
-pub length-after_write : (words : Words) (w : Write) → length (after_write words w) ≡ length words
+length-after_write : (words : Words) (w : Write) → length (after_write words w) ≡ length words
 unfolding after_write
 length-after_write words w =
     length-set words (number_of w.address) (merged_word (word_at words w.address) w.word w.enable)
@@ -89,7 +89,7 @@ all_words size words n own more is sum small past = omega (arith, ints, clamps, 
 few_words : (size words n own : ℕ) → own ≡ min size words → size ≤ n → own ≤ n
 few_words size words n own is past = omega (arith, ints, clamps, is, past)
 
-pub write_padded : (m : Memory) (more width : ℕ) (words : Words) (w : Write) → HasRoom m more words
+write_padded : (m : Memory) (more width : ℕ) (words : Words) (w : Write) → HasRoom m more words
     → taken_in true m (padded more width words) w ≡ padded more width (after_write words w)
 write_padded m more width words w room = elim (cases_lt (number_of w.address) m.size) [
   | inl small ↦
@@ -110,21 +110,21 @@ write_padded m more width words w room = elim (cases_lt (number_of w.address) m.
           ∙ sym (ap (padded more width) (no_write words w past))
     ]
 
-pub room_after : (m : Memory) (more : ℕ) (words : Words) (w : Write) → HasRoom m more words
+room_after : (m : Memory) (more : ℕ) (words : Words) (w : Write) → HasRoom m more words
     → HasRoom m more (after_write words w)
 room_after m more words w room = record {
   own = length-after_write words w ∙ room.own;
   all = ap (λ n. n + more) (length-after_write words w) ∙ room.all;
 }
 
-pub room_after_all : (m : Memory) (more : ℕ) (words : Words) (ws : List Write) → HasRoom m more words
+room_after_all : (m : Memory) (more : ℕ) (words : Words) (ws : List Write) → HasRoom m more words
     → HasRoom m more (after_writes ws words)
 room_after_all m more words [] room = room
 room_after_all m more words (w ∷ ws) room =
     room_after_all m more (after_write words w) ws (room_after m more words w room)
 
 -- the writes of a bounded run are the same to both
-pub writes_padded : (m : Memory) (more width : ℕ) (words : Words) (ws : List Write) → HasRoom m more words
+writes_padded : (m : Memory) (more width : ℕ) (words : Words) (ws : List Write) → HasRoom m more words
     → fold (taken_in true m) (padded more width words) ws ≡ padded more width (after_writes ws words)
 writes_padded m more width words [] room = refl
 writes_padded m more width words (w ∷ ws) room =
@@ -165,12 +165,12 @@ words_cut (suc count) (suc k) more width (w ∷ words) same sum =
     ∙ word_cut count width w (flat_map (λ w. w) words ++ replicate (more * width) false) first
     ∙ ap (λ ws. w ∷ ws) (words_cut count k more width words rest (omega (arith, sum)))
 
-pub many_words : (k width : ℕ) (words : Words) → map length words ≡ replicate k width → length words ≡ k
+many_words : (k width : ℕ) (words : Words) → map length words ≡ replicate k width → length words ≡ k
 many_words k width words same =
     sym (length-map words length) ∙ ap length same ∙ length-replicate k width
 
 -- the start of a memory is its words, and words of 0 behind them
-pub start_padded : (count k more width : ℕ) (words : Words) → map length words ≡ replicate k width → count ≡ k + more
+start_padded : (count k more width : ℕ) (words : Words) → map length words ≡ replicate k width → count ≡ k + more
     → words_from count width (filled count width words) ≡ padded more width words
 start_padded count k more width words same sum =
     let rest : count - length words ≡ more = omega (arith, sum, many_words k width words same) in
