@@ -6,3 +6,6 @@ pub mod Rings
 pub mod Followed
 pub mod Lowered
 pub mod Meaning
+pub mod Matching
+pub mod Writes
+pub mod Alike
