@@ -32,3 +32,8 @@ pub mod ShownTaps
 pub mod SettledBits
 pub mod HeldStates
 pub mod KeepsAnswers
+pub mod FittingParts
+pub mod FittingCells
+pub mod FittingNets
+pub mod TrailEnds
+pub mod Levels
