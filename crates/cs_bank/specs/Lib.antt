@@ -1,0 +1,5 @@
+pub mod Wired
+pub mod ContextBits
+pub mod Guards
+pub mod Starts
+pub mod Bank
