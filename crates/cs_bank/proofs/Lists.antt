@@ -30,3 +30,15 @@ append_assoc (x ∷ xs) ys zs = ap (λ r. x ∷ r) (append_assoc xs ys zs)
 pub append_none : {A : Type 0} (xs : List A) → xs ++ [] ≡ xs
 append_none [] = refl
 append_none (x ∷ xs) = ap (λ r. x ∷ r) (append_none xs)
+
+-- a place of the first list, and one of the second
+pub get_first : {A : Type 0} (xs ys : List A) (i : ℕ) → i < length xs → slice_get (xs ++ ys) i ≡ slice_get xs i
+get_first [] ys i h = absurd (omega (arith, h))
+get_first (x ∷ xs) ys zero h = refl
+get_first (x ∷ xs) ys (suc i) h = get_first xs ys i (omega (arith, h))
+
+pub get_second : {A : Type 0} (xs ys : List A) (i : ℕ) → slice_get (xs ++ ys) (length xs + i) ≡ slice_get ys i
+get_second [] ys i = let place : 0 + i ≡ i = omega arith in ap (slice_get ys) place
+get_second (x ∷ xs) ys i =
+    let place : suc (length xs) + i ≡ suc (length xs + i) = omega arith in
+    ap (slice_get (x ∷ (xs ++ ys))) place ∙ get_second xs ys i
