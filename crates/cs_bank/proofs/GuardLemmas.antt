@@ -185,6 +185,13 @@ abbrev pub HaveWritePins : ℕ → List Memory → List OpenVertex → Type 0
 HaveWritePins i ms vertices = (k p : ℕ) (m : Memory) (x : OpenVertex) → slice_get ms k ≡ Some m
     → slice_get (write_ports (i + k) vertices) p ≡ Some x → AreWritePins m x.pins
 
+-- no guard stands before the first
+pub place_after : (v i : ℕ) (ms : List Memory) (vertices : List OpenVertex) (k : ℕ) → v ≤ guards_place v i ms vertices k
+place_after v i [] vertices k = omega arith
+place_after v i (m ∷ ms) vertices zero = omega arith
+place_after v i (m ∷ ms) vertices (suc k) =
+    let rest = place_after (v + port_guard_count i m vertices) (i + 1) ms vertices k in omega (arith, rest)
+
 pub get_guard : (v i : ℕ) (ms : List Memory) (vertices : List OpenVertex) (k t place : ℕ) (m : Memory)
     → HaveWritePins i ms vertices → slice_get ms k ≡ Some m → t < port_guard_count (i + k) m vertices
     → v + place ≡ guards_place v i ms vertices k + t
@@ -216,12 +223,6 @@ get_guard v i (n ∷ ms) vertices (suc k) t place m are found low sum =
     (λ j p o x at on. are (suc j) p o x at (ap (λ a. slice_get (write_ports a vertices) p) (let more : i + suc j ≡ (i + 1) + j = omega arith in more) ∙ on))
     found (subst (λ j. t < port_guard_count j m vertices) next low) sum'
     ∙ ap (λ j. slice_get (port_guards (guards_place v' (i + 1) ms vertices k) m (write_ports j vertices)) t) (sym next)
-  where
-    place_after : (v i : ℕ) (ms : List Memory) (vertices : List OpenVertex) (k : ℕ) → v ≤ guards_place v i ms vertices k
-    place_after v i [] vertices k = omega arith
-    place_after v i (m ∷ ms) vertices zero = omega arith
-    place_after v i (m ∷ ms) vertices (suc k) =
-        let rest = place_after (v + port_guard_count i m vertices) (i + 1) ms vertices k in omega (arith, rest)
 
 -- the Writes of a memory are in order of their ports
 pub get_write_port : (i : ℕ) (xs : List OpenVertex) (u : ℕ) (x : OpenVertex) → slice_get xs u ≡ Some x

@@ -42,3 +42,6 @@ get_second [] ys i = let place : 0 + i ≡ i = omega arith in ap (slice_get ys) 
 get_second (x ∷ xs) ys i =
     let place : suc (length xs) + i ≡ suc (length xs + i) = omega arith in
     ap (slice_get (x ∷ (xs ++ ys))) place ∙ get_second xs ys i
+
+pub get_after : {A : Type 0} (xs ys : List A) (i k : ℕ) → i ≡ length xs + k → slice_get (xs ++ ys) i ≡ slice_get ys k
+get_after xs ys i k is = ap (slice_get (xs ++ ys)) is ∙ get_second xs ys k

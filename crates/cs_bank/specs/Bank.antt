@@ -52,12 +52,16 @@ banked_vertex context v d x = record x { pins = banked_pins context v d x.kind x
 abbrev pub first_guard : ℕ → Draft → ℕ
 first_guard contexts d = length d.vertices + context_bits contexts
 
--- the vertices that were there, the context bits and the guards
+-- the context bits and the guards
+abbrev pub new_vertices : ℕ → Draft → List OpenVertex
+new_vertices contexts d =
+    context_vertices contexts (length d.vertices) ++ guards (first_guard contexts d) 0 d.memories d.vertices
+
+-- the vertices that were there, and the new ones
 abbrev pub banked_vertices : ℕ → Draft → List OpenVertex
 banked_vertices contexts d =
     map (banked_vertex (context_pins contexts (length d.vertices)) (first_guard contexts d) d) d.vertices
-    ++ context_vertices contexts (length d.vertices)
-    ++ guards (first_guard contexts d) 0 d.memories d.vertices
+    ++ new_vertices contexts d
 
 -- ---- memories
 
