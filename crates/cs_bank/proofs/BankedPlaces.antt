@@ -87,11 +87,10 @@ write_pins_are d ports k p m x at found =
 
 module _ (c : ℕ) (entries : List (Option (List Image))) (d : Draft) where
   -- the vertices that were there
-  pub banked_of : OpenVertex → OpenVertex
+  abbrev pub banked_of : OpenVertex → OpenVertex
   banked_of x = banked_vertex (context_pins c (length d.vertices)) (first_guard c d) d x
 
   pub old_vertex : (v : ℕ) → v < length d.vertices → slice_get (banked c entries d).vertices v ≡ option_map banked_of (slice_get d.vertices v)
-  unfolding banked_of
   old_vertex v low =
       let mine = banked_vertex (context_pins c (length d.vertices)) (first_guard c d) d in
       let count = length-map d.vertices mine in
@@ -200,7 +199,6 @@ module _ {A : Type 0} (f : OpenVertex → List A) (none : (kind : Kind) (pins : 
   -- the new vertices make none
   pub of_old : (c : ℕ) (entries : List (Option (List Image))) (d : Draft)
       → flat_map f (banked c entries d).vertices ≡ flat_map (λ x. f (banked_of c entries d x)) d.vertices
-  unfolding banked_of
   of_old c entries d =
       let mine = banked_vertex (context_pins c (length d.vertices)) (first_guard c d) d in
       flat_map-append f (map mine d.vertices) (new_vertices c d)
