@@ -1,5 +1,5 @@
 -- The words of one context in the memory of all.
-use Rattle.std.proofs.Common.{◌≡◌, ℕ, zero, suc, ◌+◌, ◌-◌, ◌*◌, ◌/◌, ◌%◌, ◌^◌, ◌<◌, ◌≤◌, Bool, true, false, not, ◌&&◌, List, [], ◌∷◌, ◌++◌, length, map, get_or, set, take, drop, fold, refl, sym, ap, ap₂, ◌∙◌, arith, inl, inr, get_or-take, get_or-drop, drop-set-lt, mul-le-mul_right}
+use Rattle.std.proofs.Common.{◌≡◌, ℕ, zero, suc, ◌+◌, ◌-◌, ◌*◌, ◌%◌, ◌^◌, ◌<◌, ◌≤◌, Bool, true, false, not, ◌&&◌, List, [], ◌∷◌, ◌++◌, length, map, get_or, set, take, drop, fold, refl, sym, ap, ap₂, ◌∙◌, arith, inl, inr, get_or-take, get_or-drop, drop-set-lt, mul-le-mul_right}
 use Rattle.std.proofs.lemmas.List.{drop-set-add, take-set-le}
 use Rattle.std.proofs.Math.Seq.{take-set-lt}
 use Rattle.std.proofs.lemmas.Nat.{mod-mul-add}
@@ -93,8 +93,8 @@ merged_at ws size k w w' enable address inside word on =
     let x' = merged_word (word_at ws w'.address) w'.word w'.enable in
     let x = merged_word (word_at (bank_words size k ws) w.address) w.word enable in
     let alike : x' ≡ x = ap (λ i. merged_word (get_or ws i []) w'.word w'.enable) address
-        ∙ ap (λ y. merged_word y w'.word w'.enable) (word_same ws size k (number_of w.address) inside)
-        ∙ ap₂ (λ y e. merged_word (word_at (bank_words size k ws) w.address) y e) word on in
+    ∙ ap (λ y. merged_word y w'.word w'.enable) (word_same ws size k (number_of w.address) inside)
+    ∙ ap₂ (λ y e. merged_word (word_at (bank_words size k ws) w.address) y e) word on in
     ap₂ (λ i y. bank_words size k (set ws i y)) address alike ∙ set_same ws size k (number_of w.address) x inside
 
 -- in the context's own bank it does what the write does where that from `size` on is dropped

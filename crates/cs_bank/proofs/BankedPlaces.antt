@@ -1,6 +1,6 @@
 -- Where the vertices of a banked graph stand.
-use Rattle.std.proofs.Common.{◌≡◌, ℕ, zero, suc, ◌+◌, ◌-◌, ◌*◌, ◌<◌, ◌≤◌, Bool, true, false, List, [], ◌∷◌, ◌++◌, length, map, filter, take, drop, refl, sym, ap, ap₂, subst, ◌∙◌, inl, inr, arith, length-append, mul-le-mul_right}
-use Rattle.std.specs.Prelude.{slice_get, option_map, flat_map, Option, Some, None, if◌then◌else◌, ◌==◌}
+use Rattle.std.proofs.Common.{◌≡◌, ℕ, zero, suc, ◌+◌, ◌-◌, ◌*◌, ◌<◌, Bool, true, false, List, [], ◌∷◌, ◌++◌, length, map, filter, take, drop, refl, sym, ap, ap₂, subst, ◌∙◌, arith, mul-le-mul_right}
+use Rattle.std.specs.Prelude.{slice_get, option_map, flat_map, Option, Some, if◌then◌else◌, ◌==◌}
 use Rattle.std.specs.List.{count_by, range_with_len}
 use Rattle.std.proofs.lemmas.Bool.Decides.{nat_tests}
 use Rattle.std.proofs.lemmas.Grind.{flat_map-append}
@@ -11,7 +11,6 @@ use Rattle.std.proofs.lemmas.Option.{none-some, same_Some, slice_get-map, slice_
 use Rattle.cs_cells.specs.declared.gate.Kind.{Kind}
 use Rattle.cs_cells.specs.declared.gate.Kind.TheVariants.{And, AndNot, Buf, Not, OrNot}
 use Rattle.cs_graph.specs.declared.memory.Memory.{Memory}
-use Rattle.cs_graph.specs.declared.source.Driver.{Driver}
 use Rattle.cs_graph.specs.declared.source.OpenVertex.{OpenVertex}
 use Rattle.cs_graph.specs.declared.source.Source.{Source}
 use Rattle.cs_graph.specs.declared.source.Source.TheVariants.{Driven}
@@ -20,7 +19,7 @@ use Rattle.cs_graph.specs.declared.vertex.VertexKind.TheVariants.{Constant, Gate
 use Rattle.cs_graph.specs.Draft.{Draft, open_kinds}
 use Rattle.cs_graph.specs.Kinds.{is_write_of}
 use Rattle.cs_net.specs.Contexts.{Image}
-use Rattle.cs_bank.specs.Bank.{banked, banked_vertex, banked_vertices, first_guard, guard_count_of, guard_place, new_vertices}
+use Rattle.cs_bank.specs.Bank.{banked, banked_vertex, first_guard, guard_count_of, guard_place, new_vertices}
 use Rattle.cs_bank.specs.ContextBits.{context_bit, context_bits, context_pins, context_vertices, counter_contents, digits, gate, wire}
 use Rattle.cs_bank.specs.Guards.{below_size, comparison, guard, guard_count, guard_gates, guarded_enables, guards, guards_place, is_guarded, memory_tests, port_guard_count, port_guards, write_ports}
 use Rattle.cs_bank.proofs.Counters.{get_context_bit}
@@ -126,8 +125,8 @@ module _ (c : ℕ) (entries : List (Option (List Image))) (d : Draft) where
       let first = place_after f 0 d.memories d.vertices i in
       let none : 0 + i ≡ i = omega arith in
       let ports_at = ap (λ k. slice_get (write_ports k d.vertices) p) none
-          ∙ ap (slice_get (write_ports i d.vertices)) own.3
-          ∙ get_write_port i d.vertices u x found (ap (is_write_of i) kind ∙ equal_number i i refl) in
+      ∙ ap (slice_get (write_ports i d.vertices)) own.3
+      ∙ get_write_port i d.vertices u x found (ap (is_write_of i) kind ∙ equal_number i i refl) in
       let within = slice_get_within (write_ports (0 + i) d.vertices) p x ports_at in
       let most = mul-le-mul_right (guard_count m) within in
       let off = place + p * guard_count m + j - f in

@@ -1,6 +1,6 @@
 -- The writes of a banked graph are those of the running context, in its bank.
-use Rattle.std.proofs.Common.{◌≡◌, ℕ, zero, suc, ◌+◌, ◌-◌, ◌*◌, ◌%◌, ◌^◌, ◌<◌, ◌≤◌, Bool, true, false, ◌&&◌, List, [], ◌∷◌, ◌++◌, length, map, take, drop, refl, sym, ap, ap₂, subst, ◌∙◌, arith, length-take, length-drop, length-append}
-use Rattle.std.specs.Prelude.{slice_get, option_map, flat_map, Option, Some, None, ◌==◌, if◌then◌else◌, nat_lt}
+use Rattle.std.proofs.Common.{◌≡◌, ℕ, zero, suc, ◌+◌, ◌*◌, ◌^◌, ◌<◌, Bool, true, false, ◌&&◌, List, [], ◌∷◌, ◌++◌, length, map, take, drop, refl, sym, ap, ap₂, subst, ◌∙◌, arith, length-take, length-drop, length-append}
+use Rattle.std.specs.Prelude.{slice_get, flat_map, Option, Some, ◌==◌, if◌then◌else◌, nat_lt}
 use Rattle.std.proofs.lemmas.Bool.Decides.{nat_tests}
 use Rattle.std.proofs.lemmas.List.{length-map, map-append}
 use Rattle.std.proofs.lemmas.Option.{same_Some}
@@ -143,17 +143,17 @@ module _ (bounded : Bool) (c : ℕ) (entries : List (Option (List Image))) (d : 
       let place = guard_place (first_guard c d) d memory p in
       one_write (2 ^ m.abits) m.size q (memory == i) (write_of m (map see x.pins))
       (write_of (banked_memory c m entry) (map see (write_pins context place (slice_get d.memories memory) x.pins))) (λ same.
-          let here : memory ≡ i = grind (arith, nat_tests) in
-          let own = ports.writes v memory p x found kind in
-          let is = same_Some own.0 m (sym own.1 ∙ ap (slice_get d.memories) here ∙ at) in
-          let are = subst (λ n. AreWritePins n x.pins) is own.2 in
-          let seen = map see x.pins in
-          let enables = map (λ e. e && nat_lt (number_of (take m.abits seen)) m.size) (drop m.width (drop m.abits seen)) in
-          let all = ap (λ j. map see (write_pins context (guard_place (first_guard c d) d j p) (slice_get d.memories j) x.pins)) here
-              ∙ ap (λ o. map see (write_pins context (guard_place (first_guard c d) d i p) o x.pins)) at
-              ∙ write_sees v p x found (kind ∙ ap (λ j. WritePort j p) here) are in
-          subst (λ s. Banked (2 ^ m.abits) m.size q (write_of m seen) (write_of (banked_memory c m entry) s)) (sym all)
-          (write_banked m c q entry seen enables (length-map x.pins see ∙ are) small refl))
+      let here : memory ≡ i = grind (arith, nat_tests) in
+      let own = ports.writes v memory p x found kind in
+      let is = same_Some own.0 m (sym own.1 ∙ ap (slice_get d.memories) here ∙ at) in
+      let are = subst (λ n. AreWritePins n x.pins) is own.2 in
+      let seen = map see x.pins in
+      let enables = map (λ e. e && nat_lt (number_of (take m.abits seen)) m.size) (drop m.width (drop m.abits seen)) in
+      let all = ap (λ j. map see (write_pins context (guard_place (first_guard c d) d j p) (slice_get d.memories j) x.pins)) here
+      ∙ ap (λ o. map see (write_pins context (guard_place (first_guard c d) d i p) o x.pins)) at
+      ∙ write_sees v p x found (kind ∙ ap (λ j. WritePort j p) here) are in
+      subst (λ s. Banked (2 ^ m.abits) m.size q (write_of m seen) (write_of (banked_memory c m entry) s)) (sym all)
+      (write_banked m c q entry seen enables (length-map x.pins see ∙ are) small refl))
 
   -- and all of them
   pub all_writes : AllBanked (2 ^ m.abits) m.size q (open_writes d i m (sees value t))

@@ -1,6 +1,6 @@
 -- The run of one context of a banked graph.
-use Rattle.std.proofs.Common.{◌≡◌, ℕ, zero, suc, ◌+◌, ◌*◌, ◌%◌, ◌^◌, ◌<◌, ◌≤◌, Bool, true, false, List, [], ◌∷◌, ◌++◌, length, map, take, drop, fold, refl, sym, ap, ap₂, ◌∙◌, arith, inl, inr}
-use Rattle.std.specs.Prelude.{slice_get, option_map, flat_map, Option, Some, None, if◌then◌else◌}
+use Rattle.std.proofs.Common.{◌≡◌, ℕ, zero, suc, ◌+◌, ◌*◌, ◌%◌, ◌^◌, ◌<◌, ◌≤◌, true, false, List, [], ◌∷◌, ◌++◌, length, map, fold, refl, sym, ap, ap₂, ◌∙◌, arith, inl, inr}
+use Rattle.std.specs.Prelude.{slice_get, option_map, Option, Some, None, if◌then◌else◌}
 use Rattle.std.proofs.lemmas.Bool.{cases_lt}
 use Rattle.std.proofs.lemmas.List.{length-map, map-append}
 use Rattle.std.proofs.lemmas.List.Folds.{flat_map-map}
@@ -17,7 +17,7 @@ use Rattle.cs_graph.specs.declared.vertex.VertexKind.{VertexKind}
 use Rattle.cs_graph.specs.declared.vertex.VertexKind.TheVariants.{Constant, Gate, Host, Input, Output, Read, Write as WritePort}
 use Rattle.cs_graph.specs.Draft.{Draft}
 use Rattle.cs_graph.specs.Kinds.{address_bits, is_input}
-use Rattle.cs_graph.specs.Run.{Outs, Row, output_of, shown_by, start_words, taken_in, words_from, writes_by}
+use Rattle.cs_graph.specs.Run.{Outs, Row, output_of, shown_by, start_words, taken_in, writes_by}
 use Rattle.cs_net.specs.Contexts.{Image}
 use Rattle.cs_bank.specs.Bank.{FitsMemory, IsWhole, banked, banked_memory, banked_pins, first_guard, new_vertices}
 use Rattle.cs_bank.specs.ContextBits.{context_bits, context_pins, digits}

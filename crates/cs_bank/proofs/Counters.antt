@@ -1,6 +1,6 @@
 -- The context bits count the clocks.
-use Rattle.std.proofs.Common.{◌≡◌, ℕ, zero, suc, ◌+◌, ◌-◌, ◌*◌, ◌/◌, ◌%◌, ◌^◌, ◌<◌, ◌≤◌, Bool, false, List, [], ◌∷◌, ◌++◌, length, get_or, map, refl, sym, ap, ap₂, ◌∙◌, arith, inl, inr, div-add-mod'}
-use Rattle.std.specs.Prelude.{pos, negsuc, ◌-ℤ◌, slice_get, option_map, Some, ◌==◌, nat_lt, if◌then◌else◌}
+use Rattle.std.proofs.Common.{◌≡◌, ℕ, zero, suc, ◌+◌, ◌-◌, ◌*◌, ◌/◌, ◌%◌, ◌^◌, ◌<◌, ◌≤◌, Bool, false, [], ◌∷◌, map, refl, sym, ap, ap₂, ◌∙◌, arith, inl, inr, div-add-mod'}
+use Rattle.std.specs.Prelude.{pos, negsuc, ◌-ℤ◌, slice_get, option_map, Some, ◌==◌}
 use Rattle.std.specs.List.{range_with_len}
 use Rattle.std.proofs.lemmas.Bool.{cases_lt, le-ltb, lt-ltb}
 use Rattle.std.proofs.lemmas.Int.{ints}
@@ -9,7 +9,6 @@ use Rattle.std.proofs.lemmas.Nat.{mod-mul-add, mod_below}
 use Rattle.std.proofs.lemmas.Option.{slice_get-map}
 use Rattle.cs_cells.specs.Gates.{equation}
 use Rattle.cs_cells.specs.Memories.{Words}
-use Rattle.cs_graph.specs.declared.source.OpenVertex.{OpenVertex}
 use Rattle.cs_graph.specs.Draft.{Draft}
 use Rattle.cs_graph.specs.Past.{context_of}
 use Rattle.cs_graph.specs.Run.{Outs, Row}

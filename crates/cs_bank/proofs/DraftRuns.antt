@@ -1,8 +1,7 @@
 -- The run of a draft, whose pins hold their source, and that of the graph that is built of it.
-use Rattle.std.proofs.Common.{◌≡◌, ℕ, zero, suc, ◌+◌, ◌<◌, Bool, false, List, [], ◌∷◌, ◌++◌, length, map, drop, refl, sym, ap, ap₂, subst, ◌∙◌, arith}
+use Rattle.std.proofs.Common.{◌≡◌, ℕ, zero, suc, ◌+◌, ◌<◌, Bool, false, List, [], ◌∷◌, ◌++◌, length, map, drop, refl, sym, ap, ap₂, ◌∙◌, arith}
 use Rattle.std.specs.Prelude.{ℤ, pos, negsuc, ◌-ℤ◌, get_or, slice_get, option_map, flat_map, fold, Option, Some, None, if◌then◌else◌}
 use Rattle.std.specs.List.{sum_by}
-use Rattle.std.proofs.lemmas.List.Sums.{sum_by-cons}
 use Rattle.std.proofs.lemmas.Option.{slice_get-map}
 use Rattle.cs_cells.specs.Memories.{Words, Write}
 use Rattle.cs_graph.specs.declared.edge.Edge.{Edge}
@@ -18,10 +17,10 @@ use Rattle.cs_graph.specs.declared.vertex.Vertex.{Vertex}
 use Rattle.cs_graph.specs.declared.vertex.VertexKind.{VertexKind}
 use Rattle.cs_graph.specs.Draft.{Draft, built, driven, edge_into, edges_from, edges_into, feed_of, feeds_from, vertices_from}
 use Rattle.cs_graph.specs.Kinds.{is_input}
-use Rattle.cs_graph.specs.Run.{Outs, Row, RunsFor, carried, inputs_before, memory_after, output_of, outputs_at, seen, seen_edge, shown_by, start_words, taken_in, value_at, vertex_output, writes_at, writes_by}
+use Rattle.cs_graph.specs.Run.{Outs, Row, RunsFor, carried, inputs_before, memory_after, output_of, outputs_at, seen, seen_edge, shown_by, start_words, taken_in, value_at, vertex_output, writes_by}
 use Rattle.cs_graph.proofs.NumberingLemmas.{length_edge_into, length_edges_into}
 use Rattle.cs_bank.specs.Wired.{edge_source, feed_source, wired, wired_vertex}
-use Rattle.cs_bank.proofs.Lists.{append_assoc, append_none, drop_at}
+use Rattle.cs_bank.proofs.Lists.{append_assoc}
 
 -- ---- what pins that hold their source see
 

@@ -1,11 +1,11 @@
 -- The enable bits behind a guard, and where each guard stands.
-use Rattle.std.proofs.Common.{◌≡◌, ℕ, zero, suc, ◌+◌, ◌-◌, ◌*◌, ◌^◌, ◌<◌, ◌≤◌, Bool, true, false, ◌&&◌, List, [], ◌∷◌, ◌++◌, length, map, filter, take, drop, refl, sym, ap, ap₂, subst, ◌∙◌, inl, inr, arith, length-append, length-drop, length-take}
-use Rattle.std.specs.Prelude.{nat_lt, if◌then◌else◌, slice_get, Option, Some, None, cond}
+use Rattle.std.proofs.Common.{◌≡◌, ℕ, zero, suc, ◌+◌, ◌-◌, ◌*◌, ◌^◌, ◌<◌, ◌≤◌, Bool, true, false, ◌&&◌, List, [], ◌∷◌, ◌++◌, length, map, take, drop, refl, sym, ap, ap₂, subst, ◌∙◌, inl, inr, arith, length-append, length-drop, length-take}
+use Rattle.std.specs.Prelude.{nat_lt, if◌then◌else◌, slice_get, Option, Some, cond}
 use Rattle.std.specs.List.{count_by, range_with_len}
 use Rattle.std.proofs.lemmas.Bool.{cases_lt, le-ltb, lt-ltb}
 use Rattle.std.proofs.lemmas.List.{length-map}
 use Rattle.std.proofs.lemmas.List.Sums.{sum_by-cons}
-use Rattle.std.proofs.lemmas.Option.{none-some, same_Some, slice_get_within}
+use Rattle.std.proofs.lemmas.Option.{none-some, same_Some}
 use Rattle.cs_cells.specs.declared.gate.Kind.TheVariants.{And}
 use Rattle.cs_cells.specs.Gates.{equation}
 use Rattle.cs_cells.specs.Memories.{Words, number_of}
@@ -122,8 +122,8 @@ module _ (bounded : Bool) (d : Draft) (clocks : ℕ) (row : ℕ → Row) (value 
         let left = stand_left d v tests (guarded_enables last (enables_of m pins)) stand in
         let right = stand_right d v tests (guarded_enables last (enables_of m pins)) stand in
         let answer = tests_are bounded d clocks row value words run t h v m.size (address_of m pins) some
-            (subst (λ a. m.size < 2 ^ a) (sym count) few)
-            (subst (λ a. StandAt d v (below_size v (address_of m pins) (digits a m.size))) (sym count) left) in
+        (subst (λ a. m.size < 2 ^ a) (sym count) few)
+        (subst (λ a. StandAt d v (below_size v (address_of m pins) (digits a m.size))) (sym count) left) in
         let said = ap (λ a. value t (v + test_count (digits a m.size) - 1) 0) (sym count) ∙ answer in
         enables_see (v + memory_tests m) last m.width (enables_of m pins) (enable_count m pins are)
         (subst (λ n. StandAt d (v + n) (guarded_enables last (enables_of m pins))) many right)
@@ -244,9 +244,9 @@ get_write_port i (y ∷ xs) (suc u) x found is =
         → slice_get (if is_write_of i y.kind then y ∷ write_ports i xs else write_ports i xs) (count_by (is_write_of i) (y.kind ∷ take u (open_kinds xs))) ≡ Some x
     by rest true on count =
         let many : count_by (is_write_of i) (y.kind ∷ take u (open_kinds xs)) ≡ suc (count_by (is_write_of i) (take u (open_kinds xs))) =
-            count ∙ ap (λ b. cond b 1 0 + count_by (is_write_of i) (take u (open_kinds xs))) on ∙ omega arith in
+        count ∙ ap (λ b. cond b 1 0 + count_by (is_write_of i) (take u (open_kinds xs))) on ∙ omega arith in
         ap₂ (λ (b : Bool) n. slice_get (if b then y ∷ write_ports i xs else write_ports i xs) n) on many ∙ rest
     by rest false off count =
         let many : count_by (is_write_of i) (y.kind ∷ take u (open_kinds xs)) ≡ count_by (is_write_of i) (take u (open_kinds xs)) =
-            count ∙ ap (λ b. cond b 1 0 + count_by (is_write_of i) (take u (open_kinds xs))) off ∙ omega arith in
+        count ∙ ap (λ b. cond b 1 0 + count_by (is_write_of i) (take u (open_kinds xs))) off ∙ omega arith in
         ap₂ (λ (b : Bool) n. slice_get (if b then y ∷ write_ports i xs else write_ports i xs) n) off many ∙ rest

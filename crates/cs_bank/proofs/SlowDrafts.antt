@@ -1,6 +1,6 @@
 -- Drafts whose registers are several.
-use Rattle.std.proofs.Common.{◌≡◌, ℕ, zero, suc, ◌+◌, ◌-◌, ◌*◌, ◌<◌, ◌≤◌, Bool, true, false, List, [], ◌∷◌, ◌++◌, length, map, take, refl, sym, ap, ap₂, subst, ◌∙◌, inl, inr, arith}
-use Rattle.std.specs.Prelude.{pos, negsuc, ◌-ℤ◌, slice_get, option_map, Option, Some, None, if◌then◌else◌, nat_lt}
+use Rattle.std.proofs.Common.{◌≡◌, ℕ, zero, suc, ◌+◌, ◌-◌, ◌*◌, ◌<◌, ◌≤◌, false, List, [], ◌∷◌, length, map, take, refl, sym, ap, ap₂, ◌∙◌, inl, inr, arith}
+use Rattle.std.specs.Prelude.{pos, ◌-ℤ◌, slice_get, option_map, Option, Some, None, if◌then◌else◌, nat_lt}
 use Rattle.std.specs.List.{count_by}
 use Rattle.std.proofs.lemmas.Bool.{cases_lt}
 use Rattle.std.proofs.lemmas.Bool.Decides.{nat_tests}
@@ -25,7 +25,6 @@ use Rattle.cs_bank.specs.Wired.{edge_source, feed_source, wired, wired_vertex}
 use Rattle.cs_bank.proofs.BankedPlaces.{HasPorts}
 use Rattle.cs_bank.proofs.Counters.{at_now, at_past}
 use Rattle.cs_bank.proofs.DraftRuns.{carried_from, sees}
-use Rattle.cs_bank.proofs.GuardLemmas.{AreWritePins}
 
 abbrev pub slow_driver : ℕ → Driver → Driver
 slow_driver c k = record k { contents = repeated c k.contents }
@@ -85,8 +84,7 @@ ports_slow c d ports = record {
       (own.0, own.1, sym (ap (λ (z : OpenVertex). length z.pins) old.2) ∙ length-map old.0.pins (slow_pin c) ∙ own.2);
   writes = λ v memory port y found kind.
       let old = was c d.vertices v y found in
-      let own = ports.writes v memory port old.0 old.1 (ap (λ (z : OpenVertex). z.kind) old.2 ∙ kind) in
-      (
+      let own = ports.writes v memory port old.0 old.1 (ap (λ (z : OpenVertex). z.kind) old.2 ∙ kind) in (
         own.0,
         own.1,
         sym (ap (λ (z : OpenVertex). length z.pins) old.2) ∙ length-map old.0.pins (slow_pin c) ∙ own.2,

@@ -1,13 +1,12 @@
 -- Numbering the edges of a machine anew, with nothing added, gives the machine.
 use Rattle.std.proofs.Common.{◌≡◌, ◌⊎◌, ℕ, zero, suc, ◌+◌, ◌<◌, ◌≤◌, List, [], ◌∷◌, ◌++◌, length, map, drop, refl, sym, ap, ap₂, subst, ◌∙◌, inl, inr, arith}
-use Rattle.std.specs.Prelude.{slice_get, Option, Some, None}
+use Rattle.std.specs.Prelude.{slice_get, Some}
 use Rattle.std.specs.List.{sum_by}
 use Rattle.std.proofs.lemmas.Bool.{cases_lt}
 use Rattle.std.proofs.lemmas.List.Sums.{sum_by-cons}
-use Rattle.std.proofs.lemmas.Option.{none-some, same_Some, slice_get_within}
+use Rattle.std.proofs.lemmas.Option.{same_Some, slice_get_within}
 use Rattle.cs_graph.specs.declared.edge.Edge.{Edge}
 use Rattle.cs_graph.specs.declared.graph.Graph.{Graph}
-use Rattle.cs_graph.specs.declared.source.Source.{Source}
 use Rattle.cs_graph.specs.declared.source.OpenVertex.{OpenVertex}
 use Rattle.cs_graph.specs.declared.vertex.Feed.{Feed}
 use Rattle.cs_graph.specs.declared.vertex.Feed.TheVariants.{Edge as Along, Tied}
@@ -280,9 +279,9 @@ module _ (g : Graph) (is : IsMachine g) where
       let many : 0 + length g.vertices ≡ length g.vertices = omega arith in
       let rest = none_after g.edges (0 + edge_counts g.vertices) (0 + length g.vertices) refl all.next many in
       let edges = sym (append_none (edges_from 0 (wired g).vertices))
-          ∙ ap (λ es. edges_from 0 (wired g).vertices ++ es) (sym rest)
-          ∙ all.edges
-          ∙ drop_none g.edges in
+      ∙ ap (λ es. edges_from 0 (wired g).vertices ++ es) (sym rest)
+      ∙ all.edges
+      ∙ drop_none g.edges in
       ap₂ (λ vs es. record { vertices = vs; edges = es; memories = g.memories }) all.vertices edges
     where
       drop_none : (ds : List Edge) → drop 0 ds ≡ ds

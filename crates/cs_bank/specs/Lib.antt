@@ -3,3 +3,4 @@ pub mod ContextBits
 pub mod Guards
 pub mod Starts
 pub mod Bank
+pub mod Alone
