@@ -38,17 +38,17 @@ use Rattle.cs_bank.proofs.StartLemmas.{entry_at, get_entry}
 
 -- ---- a machine's wired form can be banked
 
-was_vertex : (edges : List Edge) (xs : List Vertex) (v : ℕ) (y : OpenVertex) → slice_get (map (wired_vertex edges) xs) v ≡ Some y
+pub was_vertex : (edges : List Edge) (xs : List Vertex) (v : ℕ) (y : OpenVertex) → slice_get (map (wired_vertex edges) xs) v ≡ Some y
     → (x : Vertex) × (slice_get xs v ≡ Some x) × (wired_vertex edges x ≡ y)
 was_vertex edges [] v y found = absurd (none-some y found)
 was_vertex edges (x ∷ xs) zero y found = (x, refl, same_Some (wired_vertex edges x) y found)
 was_vertex edges (x ∷ xs) (suc v) y found = was_vertex edges xs v y found
 
-kinds_wired : (edges : List Edge) (xs : List Vertex) → open_kinds (map (wired_vertex edges) xs) ≡ kinds xs
+pub kinds_wired : (edges : List Edge) (xs : List Vertex) → open_kinds (map (wired_vertex edges) xs) ≡ kinds xs
 kinds_wired edges [] = refl
 kinds_wired edges (x ∷ xs) = ap (λ ks. x.kind ∷ ks) (kinds_wired edges xs)
 
-get_kind : (xs : List Vertex) (v : ℕ) (x : Vertex) → slice_get xs v ≡ Some x → slice_get (kinds xs) v ≡ Some x.kind
+pub get_kind : (xs : List Vertex) (v : ℕ) (x : Vertex) → slice_get xs v ≡ Some x → slice_get (kinds xs) v ≡ Some x.kind
 get_kind xs v x found = slice_get-map (λ (y : Vertex). y.kind) xs v ∙ ap (option_map (λ (y : Vertex). y.kind)) found
 
 -- one more than the vertex that a pin reads, 0 where it reads none
@@ -79,7 +79,7 @@ module _ (g : Graph) (is : IsMachine g) where
         subst (IsNextPort (take v (kinds g.vertices))) kind (is.memories.ports v x.kind (get_kind g.vertices v x found))
         ∙ ap (λ ks. count_by (is_write_of memory) (take v ks)) (sym (kinds_wired g.edges g.vertices))
 
-  ports_of : HasPorts (wired g)
+  pub ports_of : HasPorts (wired g)
   ports_of = record {
     reads = λ v memory port y found kind.
         let old = was_vertex g.edges g.vertices v y found in

@@ -55,7 +55,7 @@ write_kind i (Gate kind) is = absurd (no_such is)
 write_kind i (Read memory port) is = absurd (no_such is)
 write_kind i (Write memory port) is = (port, ap (λ n. Write n port) (same_number memory i is))
 
-in_filter : (p : OpenVertex → Bool) (xs : List OpenVertex) (j : ℕ) (x : OpenVertex) → slice_get (filter p xs) j ≡ Some x
+pub in_filter : (p : OpenVertex → Bool) (xs : List OpenVertex) (j : ℕ) (x : OpenVertex) → slice_get (filter p xs) j ≡ Some x
     → (v : ℕ) × (slice_get xs v ≡ Some x) × (p x ≡ true)
 in_filter p [] j x found = absurd (none-some x found)
 in_filter p (y ∷ xs) j x found = by (in_filter p xs) (p y) refl j found

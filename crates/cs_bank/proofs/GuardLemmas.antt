@@ -53,7 +53,7 @@ address_of m pins = take m.abits pins
 abbrev pub enables_of : Memory → List (Option Source) → List (Option Source)
 enables_of m pins = drop m.width (drop m.abits pins)
 
-address_count : (m : Memory) (pins : List (Option Source)) → AreWritePins m pins → length (address_of m pins) ≡ m.abits
+pub address_count : (m : Memory) (pins : List (Option Source)) → AreWritePins m pins → length (address_of m pins) ≡ m.abits
 address_count m pins h = let count = length-take m.abits pins in omega (arith, h, count)
 
 enable_count : (m : Memory) (pins : List (Option Source)) → AreWritePins m pins → length (enables_of m pins) ≡ m.width

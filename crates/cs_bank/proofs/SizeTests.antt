@@ -103,7 +103,7 @@ pub below_is : (bs ds : List Bool) → length bs ≡ length ds → 0 < number_of
 below_is bs ds same some =
     below_from bs ds 0 1 same (omega arith) some ∙ ap₂ (λ m n. nat_lt m n) (omega arith) (omega arith)
 
-some_tests : (ds : List Bool) → 0 < number_of ds → 0 < test_count ds
+pub some_tests : (ds : List Bool) → 0 < number_of ds → 0 < test_count ds
 some_tests [] h = absurd (omega (arith, h))
 some_tests (true ∷ ds) h = omega arith
 some_tests (false ∷ ds) h = some_tests ds (omega (arith, h))
