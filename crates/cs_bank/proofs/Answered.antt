@@ -32,17 +32,11 @@ use Rattle.cs_bank.specs.Wired.{edge_source, feed_source, wired, wired_vertex}
 use Rattle.cs_bank.proofs.BankedPlaces.{HasPorts}
 use Rattle.cs_bank.proofs.ContextRuns.{CanBankDraft, alone, context_run, context_shows, draft_of_context, words_of}
 use Rattle.cs_bank.proofs.DraftRuns.{DraftRuns, SeeAlike, built_alike, from_draft, outputs_alike, sees, to_draft, wired_alike}
-use Rattle.cs_bank.proofs.Lists.{there}
+use Rattle.cs_bank.proofs.Lists.{there, was_in}
 use Rattle.cs_bank.proofs.SlowDrafts.{slow_draft, wired_slow}
 use Rattle.cs_bank.proofs.StartLemmas.{entry_at, get_entry}
 
 -- ---- a machine's wired form can be banked
-
-pub was_vertex : (edges : List Edge) (xs : List Vertex) (v : ℕ) (y : OpenVertex) → slice_get (map (wired_vertex edges) xs) v ≡ Some y
-    → (x : Vertex) × (slice_get xs v ≡ Some x) × (wired_vertex edges x ≡ y)
-was_vertex edges [] v y found = absurd (none-some y found)
-was_vertex edges (x ∷ xs) zero y found = (x, refl, same_Some (wired_vertex edges x) y found)
-was_vertex edges (x ∷ xs) (suc v) y found = was_vertex edges xs v y found
 
 pub kinds_wired : (edges : List Edge) (xs : List Vertex) → open_kinds (map (wired_vertex edges) xs) ≡ kinds xs
 kinds_wired edges [] = refl
@@ -82,11 +76,11 @@ module _ (g : Graph) (is : IsMachine g) where
   pub ports_of : HasPorts (wired g)
   ports_of = record {
     reads = λ v memory port y found kind.
-        let old = was_vertex g.edges g.vertices v y found in
+        let old = was_in (wired_vertex g.edges) g.vertices v y found in
         let own = read_pins v old.0 old.1 memory port (ap (λ (z : OpenVertex). z.kind) old.2 ∙ kind) in
         (own.0, own.1, sym (ap (λ (z : OpenVertex). length z.pins) old.2) ∙ length-map old.0.pins (feed_source g.edges) ∙ own.2);
     writes = λ v memory port y found kind.
-        let old = was_vertex g.edges g.vertices v y found in
+        let old = was_in (wired_vertex g.edges) g.vertices v y found in
         let same = ap (λ (z : OpenVertex). z.kind) old.2 ∙ kind in
         let own = write_pins_of v old.0 old.1 memory port same in (
           own.0,
@@ -127,7 +121,7 @@ module _ (g : Graph) (is : IsMachine g) where
         let count = can.count in
         can.images i m (entry_at entries i) at (get_entry entries i (omega (arith, within, count)));
     within = λ v i y k found at.
-        let old = was_vertex g.edges g.vertices v y found in
+        let old = was_in (wired_vertex g.edges) g.vertices v y found in
         let low = pins_above old.0.pins i k (ap (λ (z : OpenVertex). slice_get z.pins i) old.2 ∙ at) in
         let count = length-map g.vertices (wired_vertex g.edges) in
         omega (arith, low, count);

@@ -27,6 +27,7 @@ use Rattle.cs_bank.proofs.BankedPins.{AllRead, back_guards, get_both, write_read
 use Rattle.cs_bank.proofs.BankedPlaces.{HasPorts, in_filter, write_pins_are}
 use Rattle.cs_bank.proofs.Counters.{get_context_bit, get_range}
 use Rattle.cs_bank.proofs.GuardLemmas.{place_after}
+use Rattle.cs_bank.proofs.Lists.{was_in}
 
 -- the driver of a pin
 pub same_driver : (k k' : Driver) → Some (Driven k) ≡ Some (Driven k') → k ≡ k'
@@ -286,12 +287,6 @@ module _ (c : ℕ) (entries : List (Option (List Image))) (d : Draft) (order : H
             omega (arith, here, there, within)
       ]
 
-  was_there : (f : OpenVertex → OpenVertex) (xs : List OpenVertex) (v : ℕ) (y : OpenVertex) → slice_get (map f xs) v ≡ Some y
-      → (x : OpenVertex) × (slice_get xs v ≡ Some x) × (f x ≡ y)
-  was_there f [] v y found = absurd (none-some y found)
-  was_there f (x ∷ xs) zero y found = (x, refl, same_Some (f x) y found)
-  was_there f (x ∷ xs) (suc v) y found = was_there f xs v y found
-
   all_below : (v i : ℕ) (x : OpenVertex) (k : Driver) → slice_get (banked c entries d).vertices v ≡ Some x
       → slice_get x.pins i ≡ Some (Some (Driven k)) → length k.contents ≡ 0 → place_of k.from < place_of v
   all_below v i x k found at none =
@@ -301,7 +296,7 @@ module _ (c : ℕ) (entries : List (Option (List Image))) (d : Draft) (order : H
       let within = slice_get_within (banked c entries d).vertices v x found in
       elim (get_both (map mine d.vertices) (new_vertices c d) v x found) [
         | inl old ↦
-            let was = was_there mine d.vertices v x old in
+            let was = was_in mine d.vertices v x old in
             let low = pins_below v was.0 was.1 was.0.kind i k (ap (λ (z : OpenVertex). slice_get z.pins i) was.2 ∙ at) none in
             let here = old_place v was.0 was.1 in
             omega (arith, low, here)

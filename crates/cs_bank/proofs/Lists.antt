@@ -1,5 +1,5 @@
 -- Places of lists that are made of others.
-use Rattle.std.proofs.Common.{◌≡◌, ℕ, zero, suc, ◌+◌, ◌<◌, List, [], ◌∷◌, ◌++◌, length, drop, refl, sym, ap, ap₂, ◌∙◌, arith}
+use Rattle.std.proofs.Common.{◌≡◌, ℕ, zero, suc, ◌+◌, ◌<◌, List, [], ◌∷◌, ◌++◌, length, map, drop, refl, sym, ap, ap₂, ◌∙◌, arith}
 use Rattle.std.specs.Prelude.{flat_map, slice_get, Some}
 use Rattle.std.proofs.lemmas.Option.{none-some, same_Some}
 
@@ -50,3 +50,10 @@ pub flat_map_same : {A B : Type 0} (f g : A → List B) (xs : List A)
     → ((i : ℕ) (x : A) → slice_get xs i ≡ Some x → f x ≡ g x) → flat_map f xs ≡ flat_map g xs
 flat_map_same f g [] h = refl
 flat_map_same f g (x ∷ xs) h = ap₂ (λ ys zs. ys ++ zs) (h 0 x refl) (flat_map_same f g xs (λ i y is. h (suc i) y is))
+
+-- each place of a mapped list was one before
+pub was_in : {A B : Type 0} (f : A → B) (xs : List A) (v : ℕ) (y : B) → slice_get (map f xs) v ≡ Some y
+    → (x : A) × (slice_get xs v ≡ Some x) × (f x ≡ y)
+was_in f [] v y found = absurd (none-some y found)
+was_in f (x ∷ xs) zero y found = (x, refl, same_Some (f x) y found)
+was_in f (x ∷ xs) (suc v) y found = was_in f xs v y found

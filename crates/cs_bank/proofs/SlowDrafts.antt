@@ -25,6 +25,7 @@ use Rattle.cs_bank.specs.Wired.{edge_source, feed_source, wired, wired_vertex}
 use Rattle.cs_bank.proofs.BankedPlaces.{HasPorts}
 use Rattle.cs_bank.proofs.Counters.{at_now, at_past}
 use Rattle.cs_bank.proofs.DraftRuns.{carried_from, sees}
+use Rattle.cs_bank.proofs.Lists.{was_in}
 
 abbrev pub slow_driver : ℕ → Driver → Driver
 slow_driver c k = record k { contents = repeated c k.contents }
@@ -70,20 +71,14 @@ kinds_slowed : (c : ℕ) (xs : List OpenVertex) → open_kinds (map (slow_open c
 kinds_slowed c [] = refl
 kinds_slowed c (x ∷ xs) = ap (λ ks. x.kind ∷ ks) (kinds_slowed c xs)
 
-was : (c : ℕ) (xs : List OpenVertex) (v : ℕ) (y : OpenVertex) → slice_get (map (slow_open c) xs) v ≡ Some y
-    → (x : OpenVertex) × (slice_get xs v ≡ Some x) × (slow_open c x ≡ y)
-was c [] v y found = absurd (none-some y found)
-was c (x ∷ xs) zero y found = (x, refl, same_Some (slow_open c x) y found)
-was c (x ∷ xs) (suc v) y found = was c xs v y found
-
 pub ports_slow : (c : ℕ) (d : Draft) → HasPorts d → HasPorts (slow_draft c d)
 ports_slow c d ports = record {
   reads = λ v memory port y found kind.
-      let old = was c d.vertices v y found in
+      let old = was_in (slow_open c) d.vertices v y found in
       let own = ports.reads v memory port old.0 old.1 (ap (λ (z : OpenVertex). z.kind) old.2 ∙ kind) in
       (own.0, own.1, sym (ap (λ (z : OpenVertex). length z.pins) old.2) ∙ length-map old.0.pins (slow_pin c) ∙ own.2);
   writes = λ v memory port y found kind.
-      let old = was c d.vertices v y found in
+      let old = was_in (slow_open c) d.vertices v y found in
       let own = ports.writes v memory port old.0 old.1 (ap (λ (z : OpenVertex). z.kind) old.2 ∙ kind) in (
         own.0,
         own.1,
