@@ -1,8 +1,6 @@
 -- Every pin of a banked machine is fed, and no loop lacks a register.
-use Rattle.std.proofs.Common.{◌≡◌, ℕ, zero, suc, ◌+◌, ◌<◌, ◌≤◌, Bool, true, false, List, [], ◌∷◌, ◌++◌, length, map, refl, sym, ap, ap₂, subst, ◌∙◌, inl, inr, arith}
+use Rattle.std.proofs.Common.{◌≡◌, ℕ, zero, suc, ◌+◌, ◌<◌, ◌≤◌, false, List, [], ◌∷◌, length, map, refl, sym, ap, ◌∙◌, inl, inr, arith}
 use Rattle.std.specs.Prelude.{slice_get, option_map, Option, Some, None}
-use Rattle.std.specs.List.{range_with_len}
-use Rattle.std.proofs.lemmas.List.{length-map}
 use Rattle.std.proofs.lemmas.List.FromFn.{length-map-range_with_len}
 use Rattle.std.proofs.lemmas.Option.{none-some, same_Some, slice_get-map, slice_get_within}
 use Rattle.cs_graph.specs.declared.edge.Edge.{Edge}
@@ -14,11 +12,10 @@ use Rattle.cs_graph.specs.declared.source.Source.{Source}
 use Rattle.cs_graph.specs.declared.source.Source.TheVariants.{Driven, Tied as TiedTo}
 use Rattle.cs_graph.specs.declared.vertex.Feed.{Feed}
 use Rattle.cs_graph.specs.declared.vertex.Feed.TheVariants.{Edge as Along, Tied}
-use Rattle.cs_graph.specs.declared.vertex.Vertex.{Vertex}
 use Rattle.cs_graph.specs.declared.vertex.VertexKind.{VertexKind}
 use Rattle.cs_graph.specs.declared.vertex.VertexKind.TheVariants.{Constant, Gate, Host, Input, Output, Read, Write}
-use Rattle.cs_graph.specs.Draft.{AreFed, Draft, IsOpen, built}
-use Rattle.cs_graph.specs.Invariant.{HasOrder, IsMachine, kinds}
+use Rattle.cs_graph.specs.Draft.{AreFed, Draft, built}
+use Rattle.cs_graph.specs.Invariant.{HasOrder, IsMachine}
 use Rattle.cs_graph.specs.Kinds.{is_write_of, output_count}
 use Rattle.cs_net.specs.Contexts.{Image}
 use Rattle.cs_bank.specs.Bank.{IsWhole, banked, banked_pins, banked_vertex, first_guard, guard_place, new_vertices}
@@ -86,7 +83,7 @@ module _ (c : ℕ) (entries : List (Option (List Image))) (d : Draft) (ports : H
   unfolding IsGiven
   guard_given e i x found at =
       let back = back_guards first IsGiven first 0 d.memories d.vertices (omega arith) some (write_pins_are d ports)
-          (λ j p y on. let was = in_filter (λ (z : OpenVertex). is_write_of j z.kind) d.vertices p y on in old_given was.0 y was.1) in
+      (λ j p y on. let was = in_filter (λ (z : OpenVertex). is_write_of j z.kind) d.vertices p y on in old_given was.0 y was.1) in
       elim (back e i x None found at) [
         | inl earlier ↦ none_given (sym earlier.is)
         | inr given ↦ given refl
@@ -176,8 +173,7 @@ module _ (g : Graph) (is : IsMachine g) where
       let has = is.outputs by.e by.edge by.found in
       let x = there g.vertices by.edge.from (is.well_formed.from by.e by.edge by.found) in
       let kind = same_Some has.kind x.0.kind (sym has.found ∙ get_kind g.vertices by.edge.from x.0 x.1) in
-      let from = ap (λ (d : Driver). d.from) by.is in
-      (
+      let from = ap (λ (d : Driver). d.from) by.is in (
         wired_vertex g.edges x.0,
         ap (slice_get (wired g).vertices) (sym from)
             ∙ slice_get-map (wired_vertex g.edges) g.vertices by.edge.from

@@ -1,5 +1,5 @@
 -- An order of a banked draft's vertices, each after all that its pins read without a register.
-use Rattle.std.proofs.Common.{◌≡◌, ℕ, zero, suc, ◌+◌, ◌-◌, ◌*◌, ◌<◌, ◌≤◌, Bool, true, false, List, [], ◌∷◌, ◌++◌, length, map, take, drop, refl, sym, ap, ap₂, subst, ◌∙◌, inl, inr, arith}
+use Rattle.std.proofs.Common.{◌≡◌, ℕ, zero, suc, ◌+◌, ◌-◌, ◌<◌, ◌≤◌, Bool, true, false, List, [], ◌∷◌, length, map, refl, sym, ap, ◌∙◌, inl, inr, arith}
 use Rattle.std.specs.Prelude.{slice_get, option_map, nat_lt, Option, Some, None, if◌then◌else◌}
 use Rattle.std.specs.List.{range_with_len}
 use Rattle.std.proofs.lemmas.Bool.{cases_lt, le-ltb, lt-ltb}
@@ -7,7 +7,6 @@ use Rattle.std.proofs.lemmas.List.{length-map}
 use Rattle.std.proofs.lemmas.List.FromFn.{length-map-range_with_len}
 use Rattle.std.proofs.lemmas.Option.{none-some, same_Some, slice_get-map, slice_get_past, slice_get_within}
 use Rattle.cs_graph.specs.declared.edge.Edge.{Edge}
-use Rattle.cs_graph.specs.declared.graph.Graph.{Graph}
 use Rattle.cs_graph.specs.declared.memory.Memory.{Memory}
 use Rattle.cs_graph.specs.declared.source.Driver.{Driver}
 use Rattle.cs_graph.specs.declared.source.OpenVertex.{OpenVertex}
@@ -20,10 +19,10 @@ use Rattle.cs_graph.specs.Invariant.{HasOrder}
 use Rattle.cs_graph.specs.Kinds.{is_write_of}
 use Rattle.cs_graph.specs.Past.{context_of}
 use Rattle.cs_net.specs.Contexts.{Image}
-use Rattle.cs_bank.specs.Bank.{banked, banked_pins, banked_vertex, first_guard, guard_place, new_vertices, write_pins}
+use Rattle.cs_bank.specs.Bank.{banked, banked_pins, banked_vertex, first_guard, guard_place, new_vertices}
 use Rattle.cs_bank.specs.ContextBits.{context_bit, context_bits, context_pins, context_vertices, counter_contents, digit, wire}
-use Rattle.cs_bank.specs.Guards.{enable_pins, guards, guards_place, is_guarded, memory_tests, write_ports}
-use Rattle.cs_bank.proofs.BankedPins.{AllRead, back_guards, get_both, write_read}
+use Rattle.cs_bank.specs.Guards.{guards}
+use Rattle.cs_bank.proofs.BankedPins.{back_guards, get_both, write_read}
 use Rattle.cs_bank.proofs.BankedPlaces.{HasPorts, in_filter, write_pins_are}
 use Rattle.cs_bank.proofs.Counters.{get_context_bit, get_range}
 use Rattle.cs_bank.proofs.GuardLemmas.{place_after}
@@ -272,7 +271,7 @@ module _ (c : ℕ) (entries : List (Option (List Image))) (d : Draft) (order : H
   guard_below e i x k found at inside =
       let here = place_of_new (first + e) (omega arith) ∙ new_guard (first + e) (omega arith) inside in
       let back = back_guards first (λ s. (e : Driver) → s ≡ Some (Driven e) → IsRead d e) first 0 d.memories d.vertices (omega arith) some (write_pins_are d ports)
-          (λ j p y on i s at e is. let was = in_filter (λ (z : OpenVertex). is_write_of j z.kind) d.vertices p y on in read was.0 i y e was.1 (at ∙ ap Some is)) in
+      (λ j p y on i s at e is. let was = in_filter (λ (z : OpenVertex). is_write_of j z.kind) d.vertices p y on in read was.0 i y e was.1 (at ∙ ap Some is)) in
       elim (back e i x (Some (Driven k)) found at) [
         | inl earlier ↦
             let from = ap (λ (y : Driver). y.from) (same_driver k (record { from = earlier.u; output = 0; contents = [] }) earlier.is) in

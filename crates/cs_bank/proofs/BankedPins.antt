@@ -1,20 +1,16 @@
 -- What the pins of a banked draft read: guards read earlier guards and what Writes read.
-use Rattle.std.proofs.Common.{◌≡◌, ◌⊎◌, ℕ, zero, suc, ◌+◌, ◌-◌, ◌*◌, ◌^◌, ◌<◌, ◌≤◌, Bool, true, false, List, [], ◌∷◌, ◌++◌, length, map, take, drop, refl, sym, ap, ap₂, subst, ◌∙◌, inl, inr, arith, length-append}
-use Rattle.std.specs.Prelude.{slice_get, nat_lt, Option, Some, None, if◌then◌else◌}
+use Rattle.std.proofs.Common.{◌≡◌, ◌⊎◌, ℕ, zero, suc, ◌+◌, ◌-◌, ◌^◌, ◌<◌, ◌≤◌, Bool, true, false, List, [], ◌∷◌, ◌++◌, length, map, take, drop, refl, sym, ap, subst, ◌∙◌, inl, inr, arith}
+use Rattle.std.specs.Prelude.{slice_get, Option, Some, None, if◌then◌else◌}
 use Rattle.std.specs.List.{range_with_len}
 use Rattle.std.proofs.lemmas.Bool.{cases_lt, lt-ltb, le-ltb}
-use Rattle.std.proofs.lemmas.List.{length-map}
-use Rattle.std.proofs.lemmas.Option.{none-some, same_Some, slice_get_within}
-use Rattle.cs_cells.specs.declared.gate.Kind.{Kind}
+use Rattle.std.proofs.lemmas.Option.{none-some, same_Some}
 use Rattle.cs_cells.specs.declared.gate.Kind.TheVariants.{And, AndNot, Not, OrNot}
 use Rattle.cs_graph.specs.declared.memory.Memory.{Memory}
-use Rattle.cs_graph.specs.declared.source.Driver.{Driver}
 use Rattle.cs_graph.specs.declared.source.OpenVertex.{OpenVertex}
 use Rattle.cs_graph.specs.declared.source.Source.{Source}
-use Rattle.cs_graph.specs.declared.source.Source.TheVariants.{Driven}
 use Rattle.cs_bank.specs.Bank.{write_pins}
 use Rattle.cs_bank.specs.ContextBits.{context_bits, context_pins, digits, gate, wire}
-use Rattle.cs_bank.specs.Guards.{below_size, comparison, enable_pins, guard, guard_count, guard_gates, guarded_enables, guards, is_guarded, memory_tests, port_guard_count, port_guards, test_count, write_ports}
+use Rattle.cs_bank.specs.Guards.{below_size, comparison, enable_pins, guard, guard_count, guard_gates, guarded_enables, guards, is_guarded, memory_tests, port_guard_count, port_guards, write_ports}
 use Rattle.cs_bank.proofs.GuardLemmas.{AreWritePins, HaveWritePins, address_count, length-guard, length-port_guards}
 use Rattle.cs_bank.proofs.SizeTests.{length-below_size, length-digits, number_of-digits, some_tests}
 
@@ -28,6 +24,7 @@ get_both (z ∷ xs) ys (suc i) x h = elim (get_both xs ys i x h) [
   | inl left ↦ inl left
   | inr (k, is, right) ↦ inr (k, omega (arith, is), right)
 ]
+
 module _ (first : ℕ) (P : Option Source → Type 0) where
   -- pins that read what P says
   abbrev pub AllRead : List (Option Source) → Type 0

@@ -1,15 +1,17 @@
 -- Small memories banked, computed: one with a guard, one in three banks, and images of two contexts.
 use Rattle.std.proofs.Common.{◌≡◌, ℕ, Bool, true, false, List, [], ◌∷◌, ◌++◌, length, map, refl, Some, None}
-use Rattle.std.specs.Prelude.{drop}
+use Rattle.std.specs.Prelude.{drop, replicate}
+use Rattle.cs_base.specs.declared.limit.Counted.TheVariants.{Vertices}
 use Rattle.cs_cells.specs.declared.gate.Kind.TheVariants.{And, Buf, Not, OrNot}
 use Rattle.cs_graph.specs.declared.edge.Edge.{Edge}
 use Rattle.cs_graph.specs.declared.graph.Graph.{Graph}
-use Rattle.cs_graph.specs.declared.vertex.Feed.TheVariants.{Edge as Along}
+use Rattle.cs_graph.specs.declared.vertex.Feed.TheVariants.{Edge as Along, Tied}
 use Rattle.cs_graph.specs.declared.vertex.Vertex.{Vertex}
 use Rattle.cs_graph.specs.declared.vertex.VertexKind.{VertexKind}
 use Rattle.cs_graph.specs.declared.vertex.VertexKind.TheVariants.{Gate, Host, Input, Output, Read, Write}
 use Rattle.cs_graph.specs.Slow.{slow}
 use Rattle.cs_bank.specs.Bank.{bank}
+use Rattle.cs_bank.specs.BankFaults.{bank_fault}
 
 abbrev vertex : VertexKind → List ℕ → Vertex
 vertex kind edges = record { kind = kind; pins = map Along edges }
@@ -84,3 +86,17 @@ short_images = refl
 one_context : map (λ (x : Vertex). x.kind) (drop 10 (bank 1 (None ∷ []) (slow 1 (memory_graph 3 start))).vertices) ≡
     Gate Not ∷ Gate OrNot ∷ Gate And ∷ Gate And ∷ []
 one_context = refl
+
+-- the guards of many enable bits are too many vertices
+abbrev wide : Graph
+wide = record {
+  vertices = vertex Host [] ∷ record { kind = Write 0 0; pins = replicate 8402 (Tied false) } ∷ [];
+  edges = [];
+  memories = record { size = 3; words = 4; abits = 2; width = 4200; start = replicate 16800 false } ∷ [];
+}
+
+too_wide : bank_fault 1 (None ∷ []) wide ≡ Some (record { what = Vertices; found = 4204; most = 4096 })
+too_wide = refl
+
+m2_fits : bank_fault 2 (None ∷ []) (slow 2 (memory_graph 3 start)) ≡ None
+m2_fits = refl
