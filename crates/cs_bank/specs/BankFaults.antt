@@ -21,7 +21,8 @@ abbrev pub draft_fault : Draft → Option LimitFault
 draft_fault d =
     option_or (above_limit Vertices (length d.vertices) 4096)
     (option_or (above_limit Edges (edge_count d.vertices) 32768)
-    (option_or (above_limit Weight (weight d.vertices) 65536) (above_limit MemoryBits (memory_bits d.memories) 4194304)))
+    (option_or (above_limit Weight (weight d.vertices) 65536)
+    (above_limit MemoryBits (memory_bits d.memories) 4194304)))
 
 -- a graph without memories stays as it is
 abbrev pub bank_fault_by : List Memory → ℕ → List (Option (List Image)) → Graph → Option LimitFault
