@@ -1,14 +1,14 @@
 -- A banked draft is one that a builder keeps, where nothing of it is too many.
-use Rattle.std.proofs.Common.{◌≡◌, ◌⊎◌, ℕ, zero, suc, ◌+◌, ◌-◌, ◌*◌, ◌^◌, ◌<◌, ◌≤◌, Bool, true, false, List, [], ◌∷◌, ◌++◌, length, map, take, drop, refl, sym, ap, ap₂, subst, ◌∙◌, inl, inr, arith, length-append, length-take, length-drop, mul-le-mul_right}
-use Rattle.std.specs.Prelude.{slice_get, option_map, flat_map, nat_lt, min, Option, Some, None, if◌then◌else◌}
+use Rattle.std.proofs.Common.{◌≡◌, ◌⊎◌, ℕ, zero, suc, ◌+◌, ◌-◌, ◌*◌, ◌^◌, ◌<◌, ◌≤◌, Bool, true, false, List, [], ◌∷◌, ◌++◌, length, map, take, drop, refl, sym, ap, ap₂, subst, ◌∙◌, inl, inr, arith, length-append, length-take, length-drop}
+use Rattle.std.specs.Prelude.{slice_get, flat_map, min, Option, Some, None, if◌then◌else◌}
 use Rattle.std.specs.List.{range_with_len, sum_by}
 use Rattle.std.specs.Option.{option_or}
 use Rattle.std.proofs.lemmas.Bool.{cases_lt, lt-ltb}
-use Rattle.std.proofs.lemmas.List.{length-map, map-append, take-append-le}
+use Rattle.std.proofs.lemmas.List.{map-append, take-append-le}
 use Rattle.std.proofs.lemmas.List.FromFn.{length-map-range_with_len}
 use Rattle.std.proofs.lemmas.List.Sums.{sum_by-append, sum_by-cons}
 use Rattle.std.proofs.lemmas.Nat.{mul-le, pow-add}
-use Rattle.std.proofs.lemmas.Option.{none-some, same_Some, slice_get-map, slice_get_within}
+use Rattle.std.proofs.lemmas.Option.{none-some, same_Some, slice_get_within}
 use Rattle.cs_base.specs.declared.limit.Counted.{Counted}
 use Rattle.cs_base.specs.declared.limit.Counted.TheVariants.{Edges, MemoryBits, Vertices, Weight}
 use Rattle.cs_base.specs.declared.limit.LimitFault.{LimitFault}
@@ -21,7 +21,7 @@ use Rattle.cs_graph.specs.Invariant.{HasHost, HasMemories, HasMemory, IsMemory, 
 use Rattle.cs_graph.specs.Kinds.{address_bits, output_count, pin_count, read_width, word_bits}
 use Rattle.cs_net.specs.Accept.{above_limit}
 use Rattle.cs_net.specs.Contexts.{Image}
-use Rattle.cs_bank.specs.Bank.{FitsMemory, IsWhole, banked, banked_memory, banked_pins, banked_start, banked_vertex, first_guard, guard_place, new_vertices, write_pins}
+use Rattle.cs_bank.specs.Bank.{FitsMemory, IsWhole, banked, banked_memory, banked_pins, banked_vertex, first_guard, guard_place, new_vertices, write_pins}
 use Rattle.cs_bank.specs.BankFaults.{draft_fault, memory_bits}
 use Rattle.cs_bank.specs.ContextBits.{context_bits, context_pins, wire}
 use Rattle.cs_bank.specs.Guards.{enable_pins, is_guarded, memory_tests}
@@ -107,7 +107,8 @@ banked_is_memory c m entry some few is whole fits bits =
       some_bits = is.some_bits;
       reached = reached_by c m.words (2 ^ m.abits) (2 ^ b) (2 ^ (m.abits + b)) whole.words reach power;
       size = bits;
-      start = length-starts (λ k. start_in k m entry) (m.words * m.width) (λ k. length-start c k m entry whole is.start fits) c 0
+      start = length-starts (λ k. start_in k m entry) (m.words * m.width)
+          (λ k. length-start c k m entry whole is.start fits) c 0
           ∙ regroup c m.words m.width;
     }
   where
@@ -117,7 +118,8 @@ banked_is_memory c m entry some few is whole fits bits =
     product_some (suc x) zero p q = absurd (omega (arith, q))
 
     reached_by : (c words a b all : ℕ) → words ≡ a → c * a ≤ b * a → all ≡ a * b → c * words ≤ all
-    reached_by c words a b all same low is = rw (same, is) (let turn : b * a ≡ a * b = omega arith in omega (arith, low, turn))
+    reached_by c words a b all same low is = rw (same, is)
+        (let turn : b * a ≡ a * b = omega arith in omega (arith, low, turn))
 
 -- ---- the draft
 
@@ -147,7 +149,8 @@ module _ (c : ℕ) (entries : List (Option (List Image))) (d : Draft) (count : l
   kind_at : (v : ℕ) (kind : VertexKind) → slice_get (open_kinds all.vertices) v ≡ Some kind → IsOldOrGate v kind
   unfolding IsOldOrGate
   kind_at v kind found =
-      elim (get_both (open_kinds d.vertices) (open_kinds (new_vertices c d)) v kind (sym (ap (λ ks. slice_get ks v) kinds_of_all) ∙ found)) [
+      elim (get_both (open_kinds d.vertices) (open_kinds (new_vertices c d)) v kind
+      (sym (ap (λ ks. slice_get ks v) kinds_of_all) ∙ found)) [
         | inl old ↦ inl old
         | inr (k, is, new) ↦
             let was = was_in (λ (x : OpenVertex). x.kind) (new_vertices c d) k kind new in
@@ -159,7 +162,8 @@ module _ (c : ℕ) (entries : List (Option (List Image))) (d : Draft) (count : l
       → slice_get (open_kinds all.vertices) v ≡ Some kind
   old_kind v kind found =
       ap (λ ks. slice_get ks v) kinds_of_all
-      ∙ get_first (open_kinds d.vertices) (open_kinds (new_vertices c d)) v (slice_get_within (open_kinds d.vertices) v kind found)
+      ∙ get_first (open_kinds d.vertices) (open_kinds (new_vertices c d)) v
+      (slice_get_within (open_kinds d.vertices) v kind found)
       ∙ found
 
   host_number : VertexKind → ℕ
@@ -178,13 +182,15 @@ module _ (c : ℕ) (entries : List (Option (List Image))) (d : Draft) (count : l
 
   -- ---- memories
 
-  memory_at : (i : ℕ) (m : Memory) → slice_get d.memories i ≡ Some m → slice_get all.memories i ≡ Some (banked_memory c m (entry_at entries i))
+  memory_at : (i : ℕ) (m : Memory) → slice_get d.memories i ≡ Some m
+      → slice_get all.memories i ≡ Some (banked_memory c m (entry_at entries i))
   memory_at i m at = get_with_entry (banked_memory c) d.memories entries i m count at
 
   pub word_bits_of_all : (i : ℕ) → word_bits (slice_get all.memories i) ≡ word_bits (slice_get d.memories i)
   word_bits_of_all i = by (slice_get d.memories i) refl
     where
-      by : (o : Option Memory) → slice_get d.memories i ≡ o → word_bits (slice_get all.memories i) ≡ word_bits (slice_get d.memories i)
+      by : (o : Option Memory) → slice_get d.memories i ≡ o
+          → word_bits (slice_get all.memories i) ≡ word_bits (slice_get d.memories i)
       by None at = ap word_bits (get_without (banked_memory c) d.memories entries i at) ∙ sym (ap word_bits at)
       by (Some m) at = ap word_bits (memory_at i m at) ∙ sym (ap word_bits at)
 
@@ -209,7 +215,8 @@ module _ (c : ℕ) (entries : List (Option (List Image))) (d : Draft) (count : l
   length-memories : length all.memories ≡ length d.memories
   length-memories = by d.memories entries count
     where
-      by : (ms : List Memory) (es : List (Option (List Image))) → length es ≡ length ms → length (with_entries (banked_memory c) ms es) ≡ length ms
+      by : (ms : List Memory) (es : List (Option (List Image))) → length es ≡ length ms
+          → length (with_entries (banked_memory c) ms es) ≡ length ms
       by [] es same = refl
       by (m ∷ ms) [] same = absurd (omega (arith, same))
       by (m ∷ ms) (e ∷ es) same = ap suc (by ms es (omega (arith, same)))
@@ -230,7 +237,8 @@ module _ (c : ℕ) (entries : List (Option (List Image))) (d : Draft) (count : l
   there_still (Read memory port) is = let same = length-memories in omega (arith, is, same)
   there_still (Write memory port) is = let same = length-memories in omega (arith, is, same)
 
-  no_reads : (xs : List OpenVertex) → ((j : ℕ) (x : OpenVertex) → slice_get xs j ≡ Some x → (gate : _) × (x.kind ≡ Gate gate))
+  no_reads : (xs : List OpenVertex)
+      → ((j : ℕ) (x : OpenVertex) → slice_get xs j ≡ Some x → (gate : _) × (x.kind ≡ Gate gate))
       → sum_by (read_width all.memories) (open_kinds xs) ≡ 0
   no_reads [] gates = refl
   no_reads (x ∷ xs) gates =
@@ -256,9 +264,11 @@ module _ (c : ℕ) (entries : List (Option (List Image))) (d : Draft) (count : l
             let was = memory_was d.memories entries i y found in
             let m = was.0 in
             let same = same_Some (banked_memory c m (entry_at entries i)) y (sym (memory_at i m was.1) ∙ found) in
-            let low = one_within (λ (z : Memory). z.words * z.width) all.memories i (banked_memory c m (entry_at entries i)) (memory_at i m was.1) in
+            let low = one_within (λ (z : Memory). z.words * z.width) all.memories i
+            (banked_memory c m (entry_at entries i)) (memory_at i m was.1) in
             subst IsMemory same
-            (banked_is_memory c m (entry_at entries i) some few (is.each i m was.1) (whole i m was.1) (fits i m was.1) (omega (arith, low, bits)));
+            (banked_is_memory c m (entry_at entries i) some few (is.each i m was.1) (whole i m was.1) (fits i m was.1)
+            (omega (arith, low, bits)));
         there = λ v kind found. elim (kind_at v kind found) [
           | inl old ↦ there_still kind (is.there v kind old)
           | inr (gate, same) ↦ subst (HasMemory all.memories) (sym same) tt
@@ -267,15 +277,17 @@ module _ (c : ℕ) (entries : List (Option (List Image))) (d : Draft) (count : l
           | inl old ↦
               let within = slice_get_within (open_kinds d.vertices) v kind old in
               subst (λ ks. IsNextPort ks kind)
-              (sym (ap (take v) kinds_of_all ∙ take-append-le v (open_kinds d.vertices) (open_kinds (new_vertices c d)) (omega (arith, within))))
+              (sym (ap (take v) kinds_of_all ∙ take-append-le v (open_kinds d.vertices) (open_kinds (new_vertices c d))
+              (omega (arith, within))))
               (is.ports v kind old)
           | inr (gate, same) ↦ subst (IsNextPort (take v (open_kinds all.vertices))) (sym same) tt
         ];
         reads =
             let whole_sum = ap (sum_by (read_width all.memories)) kinds_of_all
-                ∙ sum_by-append (read_width all.memories) (open_kinds d.vertices) (open_kinds (new_vertices c d)) in
+            ∙ sum_by-append (read_width all.memories) (open_kinds d.vertices) (open_kinds (new_vertices c d)) in
             let old = old_reads (open_kinds d.vertices) in
-            let none = no_reads (new_vertices c d) (λ j x found. let gate = new_gates c d j x found in (gate.gate, gate.kind)) in
+            let none = no_reads (new_vertices c d)
+            (λ j x found. let gate = new_gates c d j x found in (gate.gate, gate.kind)) in
             let own = is.reads in
             omega (arith, whole_sum, old, none, own);
       }

@@ -1,6 +1,7 @@
 -- Every pin of a banked machine is fed, and no loop lacks a register.
-use Rattle.std.proofs.Common.{◌≡◌, ℕ, zero, suc, ◌+◌, ◌<◌, ◌≤◌, false, List, [], ◌∷◌, length, map, refl, sym, ap, ◌∙◌, inl, inr, arith}
+use Rattle.std.proofs.Common.{◌≡◌, ℕ, zero, suc, ◌+◌, ◌<◌, ◌≤◌, false, List, [], ◌∷◌, length, map, refl, sym, ap, ◌∙◌, inl, inr, arith, subst}
 use Rattle.std.specs.Prelude.{slice_get, option_map, Option, Some, None}
+use Rattle.std.proofs.lemmas.List.{length-map}
 use Rattle.std.proofs.lemmas.List.FromFn.{length-map-range_with_len}
 use Rattle.std.proofs.lemmas.Option.{none-some, same_Some, slice_get-map, slice_get_within}
 use Rattle.cs_graph.specs.declared.edge.Edge.{Edge}
@@ -14,21 +15,26 @@ use Rattle.cs_graph.specs.declared.vertex.Feed.{Feed}
 use Rattle.cs_graph.specs.declared.vertex.Feed.TheVariants.{Edge as Along, Tied}
 use Rattle.cs_graph.specs.declared.vertex.VertexKind.{VertexKind}
 use Rattle.cs_graph.specs.declared.vertex.VertexKind.TheVariants.{Constant, Gate, Host, Input, Output, Read, Write}
-use Rattle.cs_graph.specs.Draft.{AreFed, Draft, built}
-use Rattle.cs_graph.specs.Invariant.{HasOrder, IsMachine}
-use Rattle.cs_graph.specs.Kinds.{is_write_of, output_count}
+use Rattle.cs_graph.specs.Draft.{AreFed, Draft, IsDraft, built, open_kinds}
+use Rattle.cs_graph.specs.Invariant.{HasHost, HasMemories, HasOrder, HasOutput, IsMachine, kinds}
+use Rattle.cs_graph.specs.Kinds.{is_write_of, output_count, pin_count}
+use Rattle.cs_graph.proofs.BuiltLemmas.{built_machine}
 use Rattle.cs_net.specs.Contexts.{Image}
-use Rattle.cs_bank.specs.Bank.{IsWhole, banked, banked_pins, banked_vertex, first_guard, guard_place, new_vertices}
+use Rattle.cs_bank.specs.Bank.{CanBank, FitsMemory, IsWhole, bank, bank_by, banked, banked_pins, banked_vertex, first_guard, guard_place, new_vertices}
+use Rattle.cs_bank.specs.BankFaults.{bank_fault, bank_fault_by, draft_fault}
 use Rattle.cs_bank.specs.ContextBits.{context_bit, context_bits, context_pins, context_vertices, wire}
 use Rattle.cs_bank.specs.Guards.{guards}
 use Rattle.cs_bank.specs.Wired.{edge_source, feed_source, wired, wired_vertex}
-use Rattle.cs_bank.proofs.Answered.{get_kind, ports_of}
+use Rattle.cs_bank.proofs.Answered.{get_kind, kinds_wired, ports_of}
+use Rattle.cs_bank.proofs.BankedDrafts.{are_few, banked_host, banked_memories, banked_pin_counts}
 use Rattle.cs_bank.proofs.BankedOrder.{HasDraftOrder, IsRead, banked_order, is_writer, order_built, same_driver}
+use Rattle.cs_bank.proofs.BankedOutputs.{banked_outputs}
 use Rattle.cs_bank.proofs.BankedPins.{AllRead, back_guards, both_read, get_both, wires_read, write_read}
 use Rattle.cs_bank.proofs.BankedPlaces.{HasPorts, in_filter, write_pins_are}
 use Rattle.cs_bank.proofs.Counters.{get_context_bit}
 use Rattle.cs_bank.proofs.GuardLemmas.{place_after}
 use Rattle.cs_bank.proofs.Lists.{there, was_in}
+use Rattle.cs_bank.proofs.StartLemmas.{entry_at, get_entry}
 
 -- ---- every pin is fed
 
@@ -230,3 +236,64 @@ module _ (g : Graph) (is : IsMachine g) where
     pub has_order : 0 < c → HasOrder (built (banked c entries (wired g)))
     has_order several = order_built (banked c entries (wired g))
         (banked_order c entries (wired g) wired_order (ports_of g is) several some_words wired_reads)
+
+    wired_host : HasHost (open_kinds (wired g).vertices)
+    wired_host = subst HasHost (sym (kinds_wired g.edges g.vertices)) is.host
+
+    wired_pins : (v : ℕ) (y : OpenVertex) → slice_get (wired g).vertices v ≡ Some y
+        → length y.pins ≡ pin_count g.memories y.kind
+    wired_pins v y found =
+        let old = was_in (wired_vertex g.edges) g.vertices v y found in
+        sym (ap (λ (z : OpenVertex). length z.pins) old.2)
+        ∙ length-map old.0.pins (feed_source g.edges)
+        ∙ is.pins v old.0 old.1
+        ∙ ap (λ (z : OpenVertex). pin_count g.memories z.kind) old.2
+
+    wired_outputs : (v i : ℕ) (y : OpenVertex) (k : Driver) → slice_get (wired g).vertices v ≡ Some y
+        → slice_get y.pins i ≡ Some (Some (Driven k))
+        → HasOutput g.memories (open_kinds (wired g).vertices) k.from k.output
+    wired_outputs v i y k found at =
+        let old = was_in (wired_vertex g.edges) g.vertices v y found in
+        let by = fed_by g old.0.pins i k (ap (λ (z : OpenVertex). slice_get z.pins i) old.2 ∙ at) in
+        subst (λ ks. HasOutput g.memories ks k.from k.output) (sym (kinds_wired g.edges g.vertices))
+        (subst (λ (d : Driver). HasOutput g.memories (kinds g.vertices) d.from d.output) by.is
+        (is.outputs by.e by.edge by.found))
+
+    wired_memories : HasMemories g.memories (open_kinds (wired g).vertices)
+    wired_memories = subst (HasMemories g.memories) (sym (kinds_wired g.edges g.vertices)) is.memories
+
+    module _ (several : 0 < c) (few : c ≤ 16) (count : length entries ≡ length g.memories)
+        (fits : (i : ℕ) (m : Memory) → slice_get g.memories i ≡ Some m → FitsMemory c m (entry_at entries i))
+        (none : draft_fault (banked c entries (wired g)) ≡ None) where
+      -- it is what a builder keeps
+      pub banked_draft : IsDraft (banked c entries (wired g))
+      banked_draft =
+          let within = are_few (banked c entries (wired g)) none in
+          record {
+            host = banked_host c entries (wired g) count wired_host;
+            pins = banked_pin_counts c entries (wired g) count (ports_of g is) wired_pins;
+            outputs = banked_outputs c entries (wired g) count (ports_of g is) some_words wired_outputs;
+            memories = banked_memories c entries (wired g) count several few whole fits within.memories wired_memories;
+            limits = record { vertices = within.vertices; edges = within.edges; weight = within.weight };
+          }
+
+      banked_machine : IsMachine (built (banked c entries (wired g)))
+      banked_machine = built_machine (banked c entries (wired g)) banked_draft (has_order several)
+
+-- ---- all
+
+machine_by : (g : Graph) → IsMachine g → (c : ℕ) (entries : List (Option (List Image))) → 0 < c → c ≤ 16
+    → CanBank c entries g
+    → (ms : List Memory) → g.memories ≡ ms → bank_fault_by ms c entries g ≡ None → IsMachine (bank_by ms c entries g)
+machine_by g is c entries several few can [] same none = is
+machine_by g is c entries several few can (m ∷ ms) same none =
+    let fits = λ (i : ℕ) (y : Memory) (at : slice_get g.memories i ≡ Some y).
+    (let within = slice_get_within g.memories i y at in
+    let count = can.count in
+    can.images i y (entry_at entries i) at (get_entry entries i (omega (arith, within, count)))) in
+    banked_machine g is c entries can.whole several few can.count fits none
+
+-- a machine that can be banked is a machine when it is, where nothing of it is too many
+pub bank_machine : (g : Graph) → IsMachine g → (c : ℕ) (entries : List (Option (List Image))) → 0 < c → c ≤ 16
+    → CanBank c entries g → bank_fault c entries g ≡ None → IsMachine (bank c entries g)
+bank_machine g is c entries several few can none = machine_by g is c entries several few can g.memories refl none

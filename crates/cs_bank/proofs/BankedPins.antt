@@ -109,14 +109,14 @@ module _ (first : ℕ) (P : Option Source → Type 0) where
       (two_read' last v e low high (own 0 e refl))
       (back_enables last (v + 1) es low (omega (arith, high)) (λ i s at. own (suc i) s at))
 
-  part_read : (n : ℕ) (pins : List (Option Source)) → AllRead pins → AllRead (take n pins)
+  pub part_read : (n : ℕ) (pins : List (Option Source)) → AllRead pins → AllRead (take n pins)
   part_read zero [] own i s at = absurd (none-some s at)
   part_read zero (p ∷ pins) own i s at = absurd (none-some s at)
   part_read (suc n) [] own i s at = absurd (none-some s at)
   part_read (suc n) (p ∷ pins) own zero s at = own 0 s at
   part_read (suc n) (p ∷ pins) own (suc i) s at = part_read n pins (λ j t on. own (suc j) t on) i s at
 
-  rest_read : (n : ℕ) (pins : List (Option Source)) → AllRead pins → AllRead (drop n pins)
+  pub rest_read : (n : ℕ) (pins : List (Option Source)) → AllRead pins → AllRead (drop n pins)
   rest_read zero [] own i s at = absurd (none-some s at)
   rest_read zero (p ∷ pins) own i s at = own i s at
   rest_read (suc n) [] own i s at = absurd (none-some s at)

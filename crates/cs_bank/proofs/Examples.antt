@@ -1,17 +1,21 @@
 -- Small memories banked, computed: one with a guard, one in three banks, and images of two contexts.
-use Rattle.std.proofs.Common.{◌≡◌, ℕ, Bool, true, false, List, [], ◌∷◌, ◌++◌, length, map, refl, Some, None}
-use Rattle.std.specs.Prelude.{drop, replicate}
+use Rattle.std.proofs.Common.{◌≡◌, ℕ, zero, suc, ◌*◌, ◌≤◌, Bool, true, false, List, [], ◌∷◌, ◌++◌, length, get_or, map, subst, refl, arith, Some, None}
+use Rattle.std.specs.Prelude.{drop, replicate, slice_get, Option}
+use Rattle.std.proofs.lemmas.Option.{none-some, same_Some}
 use Rattle.cs_base.specs.declared.limit.Counted.TheVariants.{Vertices}
 use Rattle.cs_cells.specs.declared.gate.Kind.TheVariants.{And, Buf, Not, OrNot}
 use Rattle.cs_graph.specs.declared.edge.Edge.{Edge}
 use Rattle.cs_graph.specs.declared.graph.Graph.{Graph}
+use Rattle.cs_graph.specs.declared.memory.Memory.{Memory}
 use Rattle.cs_graph.specs.declared.vertex.Feed.TheVariants.{Edge as Along, Tied}
 use Rattle.cs_graph.specs.declared.vertex.Vertex.{Vertex}
 use Rattle.cs_graph.specs.declared.vertex.VertexKind.{VertexKind}
 use Rattle.cs_graph.specs.declared.vertex.VertexKind.TheVariants.{Gate, Host, Input, Output, Read, Write}
 use Rattle.cs_graph.specs.Slow.{slow}
-use Rattle.cs_bank.specs.Bank.{bank}
+use Rattle.cs_net.specs.Contexts.{Image}
+use Rattle.cs_bank.specs.Bank.{CanBank, FitsMemory, IsWhole, bank}
 use Rattle.cs_bank.specs.BankFaults.{bank_fault}
+use Rattle.cs_bank.proofs.SlowedGraphs.{can_bank_slowed}
 
 abbrev vertex : VertexKind → List ℕ → Vertex
 vertex kind edges = record { kind = kind; pins = map Along edges }
@@ -106,3 +110,35 @@ too_wide = refl
 
 m2_fits : bank_fault 2 (None ∷ []) (slow 2 (memory_graph 3 start)) ≡ None
 m2_fits = refl
+
+-- all of these can be banked, with and without images
+abbrev memory : ℕ → Memory
+memory size = record { size = size; words = 4; abits = 2; width = 2; start = start }
+
+m2_whole : (i : ℕ) (m : Memory) → slice_get (memory 3 ∷ []) i ≡ Some m → IsWhole m
+m2_whole zero m found = subst IsWhole (same_Some (memory 3) m found) (record {
+  some = omega arith;
+  address_bits = omega arith;
+  words = refl;
+  rest = λ i high. rest i high;
+})
+  where
+    rest : (i : ℕ) → 3 * 2 ≤ i → get_or start i false ≡ false
+    rest zero h = refl
+    rest (suc zero) h = refl
+    rest (suc (suc zero)) h = refl
+    rest (suc (suc (suc zero))) h = absurd (omega (arith, h))
+    rest (suc (suc (suc (suc zero)))) h = refl
+    rest (suc (suc (suc (suc (suc zero))))) h = refl
+    rest (suc (suc (suc (suc (suc (suc zero)))))) h = refl
+    rest (suc (suc (suc (suc (suc (suc (suc zero))))))) h = refl
+    rest (suc (suc (suc (suc (suc (suc (suc (suc i)))))))) h = refl
+m2_whole (suc i) m found = absurd (none-some m found)
+
+m2_can : CanBank 2 (None ∷ []) (slow 2 (memory_graph 3 start))
+m2_can = can_bank_slowed 2 (None ∷ []) (memory_graph 3 start) m2_whole refl m2_images
+  where
+    m2_images : (i : ℕ) (m : Memory) (entry : Option (List Image)) → slice_get (memory 3 ∷ []) i ≡ Some m
+        → slice_get {X = Option (List Image)} (None ∷ []) i ≡ Some entry → FitsMemory 2 m entry
+    m2_images zero m entry at found = subst (FitsMemory 2 m) (same_Some None entry found) tt
+    m2_images (suc i) m entry at found = absurd (none-some m at)

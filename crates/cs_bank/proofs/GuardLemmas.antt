@@ -59,7 +59,8 @@ pub address_count : (m : Memory) (pins : List (Option Source)) → AreWritePins 
     → length (address_of m pins) ≡ m.abits
 address_count m pins h = let count = length-take m.abits pins in omega (arith, h, count)
 
-pub enable_count : (m : Memory) (pins : List (Option Source)) → AreWritePins m pins → length (enables_of m pins) ≡ m.width
+pub enable_count : (m : Memory) (pins : List (Option Source)) → AreWritePins m pins
+    → length (enables_of m pins) ≡ m.width
 enable_count m pins h =
     let count = length-drop m.abits pins in
     let rest = length-drop m.width (drop m.abits pins) in

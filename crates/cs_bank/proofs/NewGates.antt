@@ -1,5 +1,5 @@
 -- The new vertices of a banked draft are gates, each with the pins of its kind.
-use Rattle.std.proofs.Common.{◌≡◌, ℕ, zero, suc, ◌+◌, ◌-◌, Bool, true, false, List, [], ◌∷◌, ◌++◌, length, map, take, drop, refl, sym, ap, subst, ◌∙◌, inl, inr, arith}
+use Rattle.std.proofs.Common.{◌≡◌, ℕ, zero, suc, ◌+◌, ◌-◌, Bool, true, false, List, [], ◌∷◌, ◌++◌, length, take, drop, refl, sym, subst, inl, inr}
 use Rattle.std.specs.Prelude.{slice_get, Option, Some, if◌then◌else◌}
 use Rattle.std.specs.List.{range_with_len}
 use Rattle.std.proofs.lemmas.Option.{none-some, same_Some}
@@ -50,9 +50,11 @@ comparison_gates : (v : ℕ) (address : List (Option Source)) (ds : List Bool) �
 comparison_gates v [] ds = no_gates
 comparison_gates v (a ∷ address) [] = no_gates
 comparison_gates v (a ∷ address) (true ∷ ds) =
-    more_gates (gate OrNot (wire v ∷ a ∷ [])) (comparison (v + 1) address ds) (two_pins OrNot (wire v) a refl) (comparison_gates (v + 1) address ds)
+    more_gates (gate OrNot (wire v ∷ a ∷ [])) (comparison (v + 1) address ds) (two_pins OrNot (wire v) a refl)
+    (comparison_gates (v + 1) address ds)
 comparison_gates v (a ∷ address) (false ∷ ds) =
-    more_gates (gate AndNot (wire v ∷ a ∷ [])) (comparison (v + 1) address ds) (two_pins AndNot (wire v) a refl) (comparison_gates (v + 1) address ds)
+    more_gates (gate AndNot (wire v ∷ a ∷ [])) (comparison (v + 1) address ds) (two_pins AndNot (wire v) a refl)
+    (comparison_gates (v + 1) address ds)
 
 test_gates : (v : ℕ) (address : List (Option Source)) (ds : List Bool) → AreGates (below_size v address ds)
 test_gates v [] ds = no_gates
@@ -63,9 +65,11 @@ test_gates v (a ∷ address) (false ∷ ds) = test_gates v address ds
 
 enable_gates : (v : ℕ) (es : List (Option Source)) → AreGates (guarded_enables v es)
 enable_gates v [] = no_gates
-enable_gates v (e ∷ es) = more_gates (gate And (e ∷ wire v ∷ [])) (guarded_enables v es) (two_pins And e (wire v) refl) (enable_gates v es)
+enable_gates v (e ∷ es) = more_gates (gate And (e ∷ wire v ∷ [])) (guarded_enables v es) (two_pins And e (wire v) refl)
+    (enable_gates v es)
 
-guard_are_gates : (v : ℕ) (m : Memory) (pins : List (Option Source)) (b : Bool) → AreGates (if b then guard_gates v m pins else [])
+guard_are_gates : (v : ℕ) (m : Memory) (pins : List (Option Source)) (b : Bool)
+    → AreGates (if b then guard_gates v m pins else [])
 guard_are_gates v m pins true =
     both_gates (below_size v (take m.abits pins) (digits m.abits m.size))
     (guarded_enables (v + memory_tests m - 1) (drop m.width (drop m.abits pins)))
@@ -82,7 +86,8 @@ port_gates v m (x ∷ xs) =
 all_guard_gates : (v i : ℕ) (ms : List Memory) (vertices : List OpenVertex) → AreGates (guards v i ms vertices)
 all_guard_gates v i [] vertices = no_gates
 all_guard_gates v i (m ∷ ms) vertices =
-    both_gates (port_guards v m (write_ports i vertices)) (guards (v + port_guard_count i m vertices) (i + 1) ms vertices)
+    both_gates (port_guards v m (write_ports i vertices))
+    (guards (v + port_guard_count i m vertices) (i + 1) ms vertices)
     (port_gates v m (write_ports i vertices)) (all_guard_gates (v + port_guard_count i m vertices) (i + 1) ms vertices)
 
 bit_gates : (c n : ℕ) → AreGates (context_vertices c n)
