@@ -25,3 +25,4 @@ pub mod WriteLemmas
 pub mod WriteValues
 pub mod MemoryCells
 pub mod NextLemmas
+pub mod FittingParts
