@@ -26,3 +26,4 @@ pub mod WriteValues
 pub mod MemoryCells
 pub mod NextLemmas
 pub mod FittingParts
+pub mod FittingCells
