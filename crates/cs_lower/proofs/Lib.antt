@@ -27,3 +27,4 @@ pub mod MemoryCells
 pub mod NextLemmas
 pub mod FittingParts
 pub mod FittingCells
+pub mod FittingNets
