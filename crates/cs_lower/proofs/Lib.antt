@@ -28,3 +28,4 @@ pub mod NextLemmas
 pub mod FittingParts
 pub mod FittingCells
 pub mod FittingNets
+pub mod TrailEnds
