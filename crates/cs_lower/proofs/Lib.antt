@@ -29,3 +29,4 @@ pub mod FittingParts
 pub mod FittingCells
 pub mod FittingNets
 pub mod TrailEnds
+pub mod Levels

@@ -78,17 +78,23 @@ pub constant_vertex : (net : Net) (b : Bool) → is_used net b ≡ true
     → PieceAt net (constant_number net b) (piece (Constant b) [])
 constant_vertex net b used = piece_at net (constant_number net b) (piece (Constant b) []) (constant_at net b used)
 
+-- each of them is a Constant
+pub constant_piece : (low high : Bool) (k : ℕ) (p : Piece)
+    → slice_get ((if low then piece (Constant false) [] ∷ [] else [])
+    ++ (if high then piece (Constant true) [] ∷ [] else [])) k ≡ Some p → (b : Bool) × (piece (Constant b) [] ≡ p)
+constant_piece true high zero p at = (false, same_Some (piece (Constant false) []) p at)
+constant_piece true true (suc zero) p at = (true, same_Some (piece (Constant true) []) p at)
+constant_piece true true (suc (suc k)) p at = absurd (none-some p at)
+constant_piece true false (suc k) p at = absurd (none-some p at)
+constant_piece false true zero p at = (true, same_Some (piece (Constant true) []) p at)
+constant_piece false true (suc k) p at = absurd (none-some p at)
+constant_piece false false k p at = absurd (none-some p at)
+
 -- no Constant has pins
 no_pins : (low high : Bool) (k : ℕ) (p : Piece)
     → slice_get ((if low then piece (Constant false) [] ∷ [] else [])
     ++ (if high then piece (Constant true) [] ∷ [] else [])) k ≡ Some p → p.pins ≡ []
-no_pins true high zero p at = sym (ap (λ q. q.pins) (same_Some (piece (Constant false) []) p at))
-no_pins true true (suc zero) p at = sym (ap (λ q. q.pins) (same_Some (piece (Constant true) []) p at))
-no_pins true true (suc (suc k)) p at = absurd (none-some p at)
-no_pins true false (suc k) p at = absurd (none-some p at)
-no_pins false true zero p at = sym (ap (λ q. q.pins) (same_Some (piece (Constant true) []) p at))
-no_pins false true (suc k) p at = absurd (none-some p at)
-no_pins false false k p at = absurd (none-some p at)
+no_pins low high k p at = let is = constant_piece low high k p at in sym (ap (λ q. q.pins) is.1)
 
 -- a constant that a pin needs is used
 used_by : (net : Net) (v i : ℕ) (p : Piece) (t : Tap) (b : Bool)
