@@ -77,10 +77,17 @@ abbrev pub pins_level : (ℕ → ℕ) → ℕ → Option Piece → ℕ
 pins_level place most None = 0
 pins_level place most (Some p) = greatest (tap_level place most) p.pins
 
+-- above the places of all bits that the vertices before ring buffers and constants read
+abbrev pub most : Net → (ℕ → ℕ) → ℕ
+most net place = bits_level place (parts_of net).pieces
+
 -- the level of vertex v
 abbrev pub level : Net → (ℕ → ℕ) → ℕ → ℕ
-level net place v =
-    pins_level place (bits_level place (parts_of net).pieces) (slice_get (pieces_of net ++ constants net) v)
+level net place v = pins_level place (most net place) (slice_get (pieces_of net ++ constants net) v)
+
+-- no vertex is as high as this
+abbrev pub span : Net → (ℕ → ℕ) → ℕ
+span net place = most net place + length (pieces_of net ++ constants net) + 1
 
 -- ---- which vertices there are
 
@@ -103,47 +110,40 @@ known net v p at = elim (get_append (pieces_of net) (constants net) v p at) [
 -- ---- how high levels are
 
 module _ (net : Net) (w : IsWellFormed net) (place : ℕ → ℕ) where
-  abbrev most : ℕ
-  most = bits_level place (parts_of net).pieces
-
   bit_at_most : (v i : ℕ) (p : Piece) (t : Tap) → slice_get (parts_of net).pieces v ≡ Some p
-      → slice_get p.pins i ≡ Some t → bit_level place t ≤ most
+      → slice_get p.pins i ≡ Some t → bit_level place t ≤ most net place
   unfolding bits_level
   bit_at_most v i p t at there =
       let outer = at_most (λ p. greatest (bit_level place) p.pins) (parts_of net).pieces v p at in
       let inner = at_most (bit_level place) p.pins i t there in
       omega (arith, outer, inner)
 
-  tap_at_most : (n : ℕ) (t : Tap) → IsBefore net n t → bit_level place t ≤ most → tap_level place most t ≤ most + n
+  tap_at_most : (n : ℕ) (t : Tap) → IsBefore net n t → bit_level place t ≤ most net place → tap_level place (most net place) t ≤ most net place + n
   tap_at_most n (of_signal s) before few = omega (arith, few)
   tap_at_most n (of_vertex v o) before few = let less = before.0 in omega (arith, less)
   tap_at_most n (of_bit b) before few = omega arith
   tap_at_most n (of_register b) before few = absurd before
 
   part_level : (v : ℕ) (p : Piece) → slice_get (parts_of net).pieces v ≡ Some p
-      → greatest (tap_level place most) p.pins ≤ most + v
+      → greatest (tap_level place (most net place)) p.pins ≤ most net place + v
   part_level v p at =
-      all_at_most (tap_level place most) p.pins (most + v)
+      all_at_most (tap_level place (most net place)) p.pins (most net place + v)
       (λ i t there. tap_at_most v t (of_all (IsBefore net v) p.pins i t (part_fits net w v p at).taps there)
       (bit_at_most v i p t at there))
 
   -- a vertex that stands there has the level of its pins
   pub level_is : (v : ℕ) (p : Piece) → slice_get (pieces_of net ++ constants net) v ≡ Some p
-      → level net place v ≡ greatest (tap_level place most) p.pins
-  level_is v p at = ap (pins_level place most) at
+      → level net place v ≡ greatest (tap_level place (most net place)) p.pins
+  level_is v p at = ap (pins_level place (most net place)) at
 
   -- a vertex before ring buffers and constants is at most so high
-  pub level_at_most : (v : ℕ) (p : Piece) → slice_get (parts_of net).pieces v ≡ Some p → level net place v ≤ most + v
+  pub level_at_most : (v : ℕ) (p : Piece) → slice_get (parts_of net).pieces v ≡ Some p → level net place v ≤ most net place + v
   level_at_most v p at =
       let same = level_is v p (part_among net v p at) in
       let few = part_level v p at in
       omega (arith, same, few)
 
-  -- no vertex is higher than this
-  abbrev pub span : ℕ
-  span = most + length (pieces_of net ++ constants net) + 1
-
-  piece_within : (v : ℕ) (p : Piece) → slice_get (pieces_of net ++ constants net) v ≡ Some p → level net place v < span
+  piece_within : (v : ℕ) (p : Piece) → slice_get (pieces_of net ++ constants net) v ≡ Some p → level net place v < span net place
   piece_within v p at = elim (known net v p at) [
     | inl part ↦
         let few = level_at_most v p part in
@@ -151,26 +151,26 @@ module _ (net : Net) (w : IsWellFormed net) (place : ℕ → ℕ) where
         omega (arith, few, within)
     | inr (inl (i, r, ring, is)) ↦
         let same = level_is v p at in
-        let none = ap (λ q. greatest (tap_level place most) q.pins) is in
+        let none = ap (λ q. greatest (tap_level place (most net place)) q.pins) is in
         omega (arith, same, none)
     | inr (inr (b, is)) ↦
         let same = level_is v p at in
-        let none = ap (λ q. greatest (tap_level place most) q.pins) is in
+        let none = ap (λ q. greatest (tap_level place (most net place)) q.pins) is in
         omega (arith, same, none)
   ]
 
-  pub level_within : (v : ℕ) → level net place v < span
+  pub level_within : (v : ℕ) → level net place v < span net place
   level_within v = by (slice_get (pieces_of net ++ constants net) v) refl
     where
-      by : (p : Option Piece) → slice_get (pieces_of net ++ constants net) v ≡ p → level net place v < span
-      by None at = let none = ap (pins_level place most) at in omega (arith, none)
+      by : (p : Option Piece) → slice_get (pieces_of net ++ constants net) v ≡ p → level net place v < span net place
+      by None at = let none = ap (pins_level place (most net place)) at in omega (arith, none)
       by (Some p) at = piece_within v p at
 
   -- ---- what drives a bit within the clock
 
   -- vertices that read signals alone are no higher than the bit that depends on those
   signals_level : (n : ℕ) (signals : List Signal) → ((c : ℕ) → holds_bit c signals ≡ true → place c < n)
-      → greatest (tap_level place most) (map of_signal signals) ≤ n
+      → greatest (tap_level place (most net place)) (map of_signal signals) ≤ n
   signals_level n [] each = omega arith
   signals_level n (s ∷ signals) each =
       max-le (first s (λ c is. each c (or_left (is_bit c s) (list_any (is_bit c) signals) is)))
@@ -187,7 +187,7 @@ module _ (net : Net) (w : IsWellFormed net) (place : ℕ → ℕ) where
       → ((c : ℕ) → holds_bit c signals ≡ true → place c < n) → level net place v ≤ n
   vertex_level v n kind signals vertex each =
       let same = level_is v vertex.vertex (part_among net v vertex.vertex vertex.stands) in
-      let pins = ap (greatest (tap_level place most)) vertex.pins_are in
+      let pins = ap (greatest (tap_level place (most net place))) vertex.pins_are in
       let few = signals_level n signals each in
       omega (arith, same, pins, few)
 

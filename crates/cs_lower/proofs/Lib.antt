@@ -30,3 +30,4 @@ pub mod FittingCells
 pub mod FittingNets
 pub mod TrailEnds
 pub mod Levels
+pub mod LoweredOrder

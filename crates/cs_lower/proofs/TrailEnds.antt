@@ -101,10 +101,12 @@ buffer_at net b i found =
     let place = found_place (λ r. r == b) 0 (wiring_of net).rings i found in
     let r = within_has (wiring_of net).rings place.0 place.2 in
     let same : place.0 ≡ i = omega (arith, place.1) in
-    let at : slice_get (wiring_of net).rings i ≡ Some r.0 = ap (slice_get (wiring_of net).rings) (sym same) ∙ r.1 in
-    (r.0, get_left (pieces_of net) (constants net) ((wiring_of net).first_buffer + i) (buffer r.0)
-    (get_right (parts_of net).pieces (map buffer (wiring_of net).rings) ((wiring_of net).first_buffer + i) i refl
-    ∙ slice_get-map buffer (wiring_of net).rings i ∙ ap (option_map buffer) at))
+    let at : slice_get (wiring_of net).rings i ≡ Some r.0 = ap (slice_get (wiring_of net).rings) (sym same) ∙ r.1 in (
+      r.0,
+      get_left (pieces_of net) (constants net) ((wiring_of net).first_buffer + i) (buffer r.0)
+          (get_right (parts_of net).pieces (map buffer (wiring_of net).rings) ((wiring_of net).first_buffer + i) i refl
+          ∙ slice_get-map buffer (wiring_of net).rings i ∙ ap (option_map buffer) at),
+    )
 
 -- ---- outputs of the draft's vertices
 
