@@ -31,3 +31,4 @@ pub mod FittingNets
 pub mod TrailEnds
 pub mod Levels
 pub mod LoweredOrder
+pub mod DraftOutputs

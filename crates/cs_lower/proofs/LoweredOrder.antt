@@ -72,6 +72,11 @@ register_leads net b v o d wired leads =
 
 -- ---- levels rise along such trails
 
+-- the tap of a ring's buffer is a register's
+pub buffer_tap : (i r : ℕ) (t : Tap) → slice_get (buffer r).pins i ≡ Some t → of_register r ≡ t
+buffer_tap zero r t there = same_Some (of_register r) t there
+buffer_tap (suc i) r t there = absurd (none-some t there)
+
 module _ (net : Net) (w : IsWellFormed net) (place : ℕ → ℕ) (order : IsBitOrder net place) where
   -- of a bit that no ring buffer takes the place of
   wire_rises : (b v o : ℕ) (x : Wire) → wire_in (wiring_of net).wires b ≡ x
@@ -143,11 +148,6 @@ module _ (net : Net) (w : IsWellFormed net) (place : ℕ → ℕ) (order : IsBit
       let same = level_is net w place v p at in
       let above = at_most (tap_level place (most net place)) p.pins i t there in
       omega (arith, below, same, above)
-
-  -- the tap of a ring's buffer is a register's
-  buffer_tap : (i r : ℕ) (t : Tap) → slice_get (buffer r).pins i ≡ Some t → of_register r ≡ t
-  buffer_tap zero r t there = same_Some (of_register r) t there
-  buffer_tap (suc i) r t there = absurd (none-some t there)
 
   buffer_rises : (i r k u o : ℕ) (t : Tap) → slice_get (wiring_of net).rings k ≡ Some r
       → slice_get (buffer r).pins i ≡ Some t → LeadsAtOnce (trail_of net t) u o → ⊥
