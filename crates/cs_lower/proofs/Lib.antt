@@ -32,3 +32,4 @@ pub mod TrailEnds
 pub mod Levels
 pub mod LoweredOrder
 pub mod DraftOutputs
+pub mod DraftMemories
