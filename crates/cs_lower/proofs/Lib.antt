@@ -33,3 +33,4 @@ pub mod Levels
 pub mod LoweredOrder
 pub mod DraftOutputs
 pub mod DraftMemories
+pub mod PortNumbers
