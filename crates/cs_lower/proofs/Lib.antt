@@ -34,3 +34,4 @@ pub mod LoweredOrder
 pub mod DraftOutputs
 pub mod DraftMemories
 pub mod PortNumbers
+pub mod PortsInOrder
