@@ -35,3 +35,4 @@ pub mod DraftOutputs
 pub mod DraftMemories
 pub mod PortNumbers
 pub mod PortsInOrder
+pub mod ReadWidths

@@ -25,7 +25,7 @@ use Rattle.cs_lower.proofs.PlacedCells.{placed, placed_from}
 use Rattle.cs_lower.proofs.PortNumbers.{AreNext, HasNoPort, HaveNoPorts, IsBelow, IsOfMemory, below_append, below_more, kinds_of, next_append, one_below, one_read, one_write, plain_below, plain_next, plain_of_memory, plain_reads, plain_writes, reads_append, reads_in, writes_append, writes_in}
 use Rattle.cs_lower.proofs.TakenLemmas.{chain_muxes}
 
-kinds_join : (xs ys : List Piece) → kinds_of (xs ++ ys) ≡ kinds_of xs ++ kinds_of ys
+pub kinds_join : (xs ys : List Piece) → kinds_of (xs ++ ys) ≡ kinds_of xs ++ kinds_of ys
 kinds_join xs ys = map-append (λ p. p.kind) xs ys
 
 next_join : (before : List VertexKind) (xs ys : List Piece) → AreNext before (kinds_of xs)
@@ -39,7 +39,7 @@ none_of_muxes : (pieces : List Piece) → AllByRecursion (λ p. p.kind ≡ Gate 
 none_of_muxes [] muxes = tt
 none_of_muxes (p ∷ pieces) muxes = (subst HasNoPort (sym muxes.0) tt, none_of_muxes pieces muxes.1)
 
-none_of_register : (net : Net) (n : ℕ) (q : Signal) (r : StateElement) (d : Tap)
+pub none_of_register : (net : Net) (n : ℕ) (q : Signal) (r : StateElement) (d : Tap)
     → HaveNoPorts (register_parts net n q r d).pieces
 none_of_register net n q r d = none_of_muxes (register_chain net n q r d).pieces (chain_muxes net n q r d).muxes
 
@@ -50,7 +50,7 @@ none_in_turn parts n (x ∷ xs) each =
     append_all (λ p. HasNoPort p.kind) (parts n x).pieces (in_turn parts (n + length (parts n x).pieces) xs).pieces
     (each n x) (none_in_turn parts (n + length (parts n x).pieces) xs each)
 
-none_of_data : (net : Net) (cell : Cell) (shape : MemShape) (read : ℕ × ReadShape) (v : ℕ)
+pub none_of_data : (net : Net) (cell : Cell) (shape : MemShape) (read : ℕ × ReadShape) (v : ℕ)
     → HaveNoPorts (data_parts net cell shape read v).pieces
 none_of_data net cell shape read v = by read.1.clocked
   where
@@ -69,16 +69,16 @@ none_of_outputs : (signals : List Signal) → HaveNoPorts (map (λ s. piece Outp
 none_of_outputs [] = tt
 none_of_outputs (s ∷ signals) = (tt, none_of_outputs signals)
 
-none_of_ports : (net : Net) → HaveNoPorts (port_parts net).pieces
+pub none_of_ports : (net : Net) → HaveNoPorts (port_parts net).pieces
 none_of_ports net =
     append_all (λ p. HasNoPort p.kind) (input_parts net).pieces (output_parts net).pieces
     (tt, none_of_inputs (data_inputs net)) (none_of_outputs (data_outputs net))
 
-none_of_buffers : (bits : List ℕ) → HaveNoPorts (map buffer bits)
+pub none_of_buffers : (bits : List ℕ) → HaveNoPorts (map buffer bits)
 none_of_buffers [] = tt
 none_of_buffers (b ∷ bits) = (tt, none_of_buffers bits)
 
-none_of_constants : (low high : Bool) → HaveNoPorts
+pub none_of_constants : (low high : Bool) → HaveNoPorts
     ((if low then piece (Constant false) [] ∷ [] else []) ++ (if high then piece (Constant true) [] ∷ [] else []))
 none_of_constants true true = (tt, (tt, tt))
 none_of_constants true false = (tt, tt)
