@@ -304,7 +304,7 @@ length_edges_from v (x ∷ xs) =
     ∙ ap₂ (λ a b. a + b) (length_edges_into v 0 x.pins) (length_edges_from (v + 1) xs)
     ∙ sym (sum_by-cons (λ (z : OpenVertex). sum_by driven z.pins) x xs)
 
-abbrev edge_weights : List Edge → ℕ
+abbrev pub edge_weights : List Edge → ℕ
 edge_weights es = sum_by (λ (d : Edge). d.weight) es
 
 weight_into_one : (v j : ℕ) (s : Option Source) → edge_weights (edge_into v j s) ≡ registers s
@@ -319,7 +319,7 @@ weight_into v j (s ∷ ss) =
     ∙ ap₂ (λ a b. a + b) (weight_into_one v j s) (weight_into v (j + 1) ss)
     ∙ sym (sum_by-cons registers s ss)
 
-weight_from : (v : ℕ) (xs : List OpenVertex) → edge_weights (edges_from v xs) ≡ weight xs
+pub weight_from : (v : ℕ) (xs : List OpenVertex) → edge_weights (edges_from v xs) ≡ weight xs
 weight_from v [] = refl
 weight_from v (x ∷ xs) =
     sum_by-append (λ (d : Edge). d.weight) (edges_into v 0 x.pins) (edges_from (v + 1) xs)

@@ -36,3 +36,4 @@ pub mod DraftMemories
 pub mod PortNumbers
 pub mod PortsInOrder
 pub mod ReadWidths
+pub mod LoweredMachine
