@@ -1,9 +1,9 @@
 -- The memories of a netlist's draft are such as a machine has: their sizes fit one another and the limits.
-use Rattle.std.specs.Prelude.{◌||◌, ◌&&◌, not, nat_lt, slice_get, replicate, sum, flat_map, find, unwrap_or}
-use Rattle.std.proofs.Common.{◌≡◌, ℕ, zero, suc, ◌+◌, ◌*◌, ◌^◌, ◌-◌, ◌<◌, ◌≤◌, Bool, true, false, cond, List, [], ◌∷◌, ◌++◌, length, map, drop, codes, min, Option, Some, None, option_map, refl, sym, ap, subst, ◌∙◌, arith, inl, inr, length-append}
-use Rattle.std.specs.List.{AllByRecursion, list_any, sum_by, zip}
+use Rattle.std.specs.Prelude.{◌||◌, ◌&&◌, not, nat_lt, slice_get, replicate, sum, flat_map, find}
+use Rattle.std.proofs.Common.{◌≡◌, ℕ, zero, suc, ◌+◌, ◌*◌, ◌^◌, ◌-◌, ◌<◌, ◌≤◌, Bool, true, false, cond, List, [], ◌∷◌, length, map, drop, codes, min, Option, Some, None, refl, sym, ap, subst, ◌∙◌, arith, inl, inr, length-append}
+use Rattle.std.specs.List.{list_any, zip}
 use Rattle.std.proofs.Math.Nat.{min-le_right}
-use Rattle.std.proofs.lemmas.Bool.{cases_Bool, cases_lt, le-leb, leb-true}
+use Rattle.std.proofs.lemmas.Bool.{cases_lt, le-leb}
 use Rattle.std.proofs.lemmas.List.{length-map, length-replicate}
 use Rattle.std.proofs.lemmas.List.Sums.{sum-map, sum_by-cons}
 use Rattle.std.proofs.lemmas.Nat.{pow_pos}
@@ -24,7 +24,7 @@ use Rattle.cs_modules.specs.Memories.{memory_shape, shape_by, shape_of, shapes_i
 use Rattle.cs_modules.specs.Modules.{cells_of, is_memory}
 use Rattle.cs_modules.specs.Pins.{class_at, number_at}
 use Rattle.cs_net.specs.declared.state.MemoryWords.{MemoryWords}
-use Rattle.cs_net.specs.Accept.{above_limit, limit_fault, limit_fault_of, memory_bits, read_bits, too_many_address_bits}
+use Rattle.cs_net.specs.Accept.{above_limit, limit_fault, memory_bits, read_bits, too_many_address_bits}
 use Rattle.cs_net.specs.Build.{net_of}
 use Rattle.cs_net.specs.Invariant.{IsWellFormed}
 use Rattle.cs_net.specs.Netlist.{Net}
@@ -218,7 +218,8 @@ memory_fits net w i words shape at is =
       some_bits = some_bits net w i shape is;
       reached = omega arith;
       size = omega (arith, part, most);
-      start = filled_length (2 ^ shape.abits) (word_count shape) shape.width words.words (memory_wide net w i shape words is at)
+      start = filled_length (2 ^ shape.abits) (word_count shape) shape.width words.words
+          (memory_wide net w i shape words is at)
           (min-le_right shape.size (2 ^ shape.abits));
     }
 

@@ -1,15 +1,13 @@
 -- The graph of a netlist is a machine where it is within the limits.
 use Rattle.std.specs.Prelude.{slice_get}
-use Rattle.std.proofs.Common.{◌≡◌, ℕ, zero, suc, ◌+◌, ◌≤◌, Bool, List, [], ◌∷◌, ◌++◌, length, map, take, Some, refl, sym, ap, subst, ◌∙◌, arith, inl, inr}
-use Rattle.std.specs.List.{sum_by}
+use Rattle.std.proofs.Common.{◌≡◌, ℕ, List, [], ◌++◌, length, Some, refl, sym, ap, subst, ◌∙◌, arith, inl, inr}
 use Rattle.std.proofs.lemmas.List.{length-map}
 use Rattle.std.proofs.lemmas.Simd.{map-map}
 use Rattle.cs_graph.specs.declared.source.OpenVertex.{OpenVertex}
-use Rattle.cs_graph.specs.declared.vertex.VertexKind.{VertexKind}
 use Rattle.cs_graph.specs.declared.vertex.VertexKind.TheVariants.{Host}
 use Rattle.cs_graph.specs.Draft.{IsDraft, IsWithinLimits, open_kinds}
-use Rattle.cs_graph.specs.Invariant.{HasHost, HasMemories, HasMemory, IsMachine, IsNextPort, IsWithinLimits as IsGraphWithinLimits}
-use Rattle.cs_graph.specs.Kinds.{pin_count, read_width}
+use Rattle.cs_graph.specs.Invariant.{HasHost, HasMemories, HasMemory, IsMachine, IsWithinLimits as IsGraphWithinLimits}
+use Rattle.cs_graph.specs.Kinds.{pin_count}
 use Rattle.cs_graph.proofs.BuiltLemmas.{built_machine, length_edges_from, length_vertices_from, weight_from}
 use Rattle.cs_net.specs.Invariant.{IsWellFormed}
 use Rattle.cs_net.specs.Netlist.{Net}
@@ -26,6 +24,7 @@ use Rattle.cs_lower.proofs.Places.{get_left}
 use Rattle.cs_lower.proofs.PortNumbers.{kinds_of, next_at}
 use Rattle.cs_lower.proofs.PortsInOrder.{all_next}
 use Rattle.cs_lower.proofs.ReadWidths.{few_outputs}
+use Rattle.cs_lower.proofs.TrailEnds.{draft_kind}
 
 module _ (net : Net) (w : IsWellFormed net) where
   -- all vertices of the netlist
@@ -44,20 +43,14 @@ module _ (net : Net) (w : IsWellFormed net) where
     | inr (inr (b, same)) ↦ let kind = ap (λ q. q.kind) same in absurd (cc)
   ]
 
-  one_host : HasHost (kinds_of all)
+  one_host : HasHost (open_kinds (draft_of net).vertices)
   one_host = record {
-    first = let p = get_left (pieces_of net) (constants net) 0 (piece Host []) (host_piece net) in found 0 (piece Host []) p;
-    one = λ v at. let p = map_at (λ q. q.kind) all v Host at in host_first v p.0 p.1 p.2;
+    first = draft_kind net 0 (piece Host [])
+        (get_left (pieces_of net) (constants net) 0 (piece Host []) (host_piece net));
+    one = λ v at.
+        let p = map_at (λ q. q.kind) all v Host (ap (λ ks. slice_get ks v) draft_kinds ∙ at) in
+        host_first v p.0 p.1 p.2;
   }
-    where
-      found : (v : ℕ) (p : Piece) → slice_get all v ≡ Some p → slice_get (kinds_of all) v ≡ Some p.kind
-      found v p at = at_kind all v p at
-        where
-          at_kind : (pieces : List Piece) (v : ℕ) (p : Piece) → slice_get pieces v ≡ Some p
-              → slice_get (kinds_of pieces) v ≡ Some p.kind
-          at_kind [] v p at = cc
-          at_kind (q ∷ pieces) zero p at = let same : q ≡ p = cc in ap (λ x. Some x.kind) same
-          at_kind (q ∷ pieces) (suc v) p at = at_kind pieces v p at
 
   -- each vertex has the pins of its kind
   pins_fit : (v : ℕ) (p : Piece) → slice_get all v ≡ Some p → length p.pins ≡ pin_count (draft_of net).memories p.kind
@@ -101,7 +94,7 @@ module _ (net : Net) (w : IsWellFormed net) where
   -- a netlist's draft is one of a machine where it is within the limits
   pub draft_fits : IsWithinLimits (draft_of net).vertices → IsDraft (draft_of net)
   draft_fits limits = record {
-    host = subst HasHost draft_kinds one_host;
+    host = one_host;
     pins = vertex_pins;
     outputs = draft_outputs net w;
     memories = subst (HasMemories (draft_of net).memories) draft_kinds all_memories;

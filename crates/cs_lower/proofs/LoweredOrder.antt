@@ -1,9 +1,8 @@
 -- The graph of a netlist has an order: no loop lacks a register.
 use Rattle.std.specs.Prelude.{◌==◌, slice_get}
-use Rattle.std.proofs.Common.{◌≡◌, ℕ, zero, suc, ◌+◌, ◌<◌, ◌≤◌, Bool, true, false, List, [], ◌∷◌, ◌++◌, length, map, Option, Some, None, refl, sym, ap, subst, ◌∙◌, arith, inl, inr, length-append}
+use Rattle.std.proofs.Common.{◌≡◌, ℕ, zero, suc, ◌+◌, ◌<◌, Bool, true, false, List, [], ◌∷◌, ◌++◌, length, Option, Some, None, refl, sym, ap, subst, ◌∙◌, arith, inl, inr, length-append}
 use Rattle.std.specs.List.{position_from}
 use Rattle.std.proofs.lemmas.Option.{none-some, same_Some}
-use Rattle.cs_base.specs.declared.signal.Signal.{Signal}
 use Rattle.cs_base.specs.declared.signal.Signal.TheVariants.{Zero, One, Unknown, HighZ, Bit}
 use Rattle.cs_graph.specs.declared.edge.Edge.{Edge}
 use Rattle.cs_graph.specs.declared.source.Driver.{Driver}
@@ -17,14 +16,14 @@ use Rattle.cs_net.specs.Invariant.{IsWellFormed}
 use Rattle.cs_net.specs.Netlist.{Net}
 use Rattle.cs_net.proofs.Members.{of_all}
 use Rattle.cs_net.proofs.MemoryPlaces.{map_at}
-use Rattle.cs_lower.specs.Followed.{End, Trail, at_bit, at_vertex, behind_wire, ends, from_tap}
+use Rattle.cs_lower.specs.Followed.{End, Trail, at_bit, at_vertex, behind_wire, ends}
 use Rattle.cs_lower.specs.Lowered.{buffer, constant_source, constants, draft_of, lowered, pieces_of, source_by, source_of, trail_of, vertex_of, wiring_of}
 use Rattle.cs_lower.specs.Matching.{Matches}
 use Rattle.cs_lower.specs.Taps.{Piece, Tap, Wire, from_register, from_vertex, of_bit, of_register, of_signal, of_vertex, undriven}
 use Rattle.cs_lower.specs.Wires.{parts_of, wire_in}
 use Rattle.cs_lower.proofs.FittingNets.{part_fits}
-use Rattle.cs_lower.proofs.FittingParts.{Gives, IsBefore}
-use Rattle.cs_lower.proofs.Levels.{at_most, bits_level, driver_level, greatest, known, level, level_at_most, level_is, level_within, most, span, tap_level}
+use Rattle.cs_lower.proofs.FittingParts.{IsBefore}
+use Rattle.cs_lower.proofs.Levels.{at_most, driver_level, known, level, level_at_most, level_is, level_within, most, span, tap_level}
 use Rattle.cs_lower.proofs.MatchLemmas.{matches, well_named}
 use Rattle.cs_lower.proofs.TrailEnds.{buffer_at, ring_register}
 use Rattle.cs_lower.proofs.TrailLemmas.{trail_of_free, trail_of_register, trail_of_ring, trail_step}
@@ -68,7 +67,8 @@ register_leads : (net : Net) (b v o : ℕ) (d : Tap) → wire_in (wiring_of net)
     → LeadsAtOnce (trail_of net (of_register b)) v o → ⊥
 register_leads net b v o d wired leads =
     let is = trail_of_register net b ∙ ap (behind_wire ((wiring_of net).start b) (trail_of net)) wired in
-    past_leads ((wiring_of net).start b) (trail_of net d).contents (sym (ap (λ (t : Trail). t.contents) is) ∙ leads.contents)
+    past_leads ((wiring_of net).start b) (trail_of net d).contents
+    (sym (ap (λ (t : Trail). t.contents) is) ∙ leads.contents)
 
 -- ---- levels rise along such trails
 
@@ -248,7 +248,8 @@ edge_rises : (net : Net) → IsWellFormed net → (place : ℕ → ℕ) → IsBi
     → d.weight ≡ 0 → level net place d.from < level net place d.to
 edge_rises net w place order d pin none =
     let led = driven_at_once net (trail_of net pin.tap) pin.driver pin.source (pin.held ∙ none) in
-    let below = level_rises net w place order d.to d.pin pin.driver.from led.0 pin.vertex pin.tap pin.at pin.there led.1 in
+    let below =
+    level_rises net w place order d.to d.pin pin.driver.from led.0 pin.vertex pin.tap pin.at pin.there led.1 in
     let from = ap (level net place) pin.from in
     omega (arith, below, from)
 

@@ -1,9 +1,9 @@
 -- Ports among kinds of vertices are numbered in order: each by how many of its memory stand before.
-use Rattle.std.specs.Prelude.{◌==◌, slice_get}
-use Rattle.std.proofs.Common.{◌≡◌, ℕ, zero, suc, ◌+◌, ◌<◌, ◌≤◌, Bool, true, false, cond, List, [], ◌∷◌, ◌++◌, length, map, take, Some, refl, sym, ap, subst, ◌∙◌, arith}
+use Rattle.std.specs.Prelude.{slice_get}
+use Rattle.std.proofs.Common.{◌≡◌, ℕ, zero, suc, ◌+◌, ◌<◌, ◌≤◌, Bool, false, cond, List, [], ◌∷◌, ◌++◌, map, take, Some, refl, sym, ap, subst, arith}
 use Rattle.std.specs.List.{AllByRecursion, count_by}
 use Rattle.std.proofs.lemmas.Bool.{eq-eqb, ne_eqb}
-use Rattle.std.proofs.lemmas.List.{append-nil, append_assoc, map-append}
+use Rattle.std.proofs.lemmas.List.{append-nil, append_assoc}
 use Rattle.std.proofs.lemmas.List.Sums.{sum_by-append, sum_by-cons}
 use Rattle.std.proofs.lemmas.Option.{none-some, same_Some}
 use Rattle.cs_graph.specs.declared.vertex.VertexKind.{VertexKind}
@@ -133,7 +133,8 @@ next_alone before (Write i port) none = absurd none
 abbrev pub HaveNoPorts : List Piece → Type 0
 HaveNoPorts pieces = AllByRecursion (λ p. HasNoPort p.kind) pieces
 
-pub plain_next : (before : List VertexKind) (pieces : List Piece) → HaveNoPorts pieces → AreNext before (kinds_of pieces)
+pub plain_next : (before : List VertexKind) (pieces : List Piece) → HaveNoPorts pieces
+    → AreNext before (kinds_of pieces)
 plain_next before [] none = tt
 plain_next before (p ∷ pieces) none =
     (next_alone before p.kind none.0, plain_next (before ++ p.kind ∷ []) pieces none.1)

@@ -1,7 +1,7 @@
 -- The read and write ports among a netlist's vertices are numbered in order, memory by memory.
 use Rattle.std.specs.Prelude.{if◌then◌else◌}
-use Rattle.std.proofs.Common.{◌≡◌, ℕ, zero, suc, ◌+◌, ◌≤◌, Bool, true, false, List, [], ◌∷◌, ◌++◌, length, map, Option, Some, None, codes, refl, sym, ap, subst, ◌∙◌, arith}
-use Rattle.std.specs.List.{AllByRecursion, enumerate_from, zip}
+use Rattle.std.proofs.Common.{◌≡◌, ℕ, zero, suc, ◌+◌, ◌≤◌, Bool, true, false, List, [], ◌∷◌, ◌++◌, length, map, Option, Some, None, codes, refl, sym, ap, subst, arith}
+use Rattle.std.specs.List.{AllByRecursion, enumerate_from}
 use Rattle.std.proofs.lemmas.List.{map-append}
 use Rattle.cs_base.specs.declared.signal.Signal.{Signal}
 use Rattle.cs_cells.specs.declared.class.Class.{Class}
@@ -10,13 +10,13 @@ use Rattle.cs_cells.specs.declared.gate.Kind.TheVariants.{Mux}
 use Rattle.cs_cells.specs.declared.memory.MemShape.{MemShape}
 use Rattle.cs_cells.specs.declared.memory.ReadShape.{ReadShape}
 use Rattle.cs_graph.specs.declared.vertex.VertexKind.{VertexKind}
-use Rattle.cs_graph.specs.declared.vertex.VertexKind.TheVariants.{Constant, Gate, Host, Input, Output, Read, Write}
+use Rattle.cs_graph.specs.declared.vertex.VertexKind.TheVariants.{Constant, Gate, Input, Output, Read, Write}
 use Rattle.cs_modules.specs.Pins.{count_from}
 use Rattle.cs_net.specs.declared.netlist.Cell.{Cell}
-use Rattle.cs_net.specs.Drivers.{StateElement, data_inputs, data_outputs, port_part, read_data, read_element, register_of, signal_of}
+use Rattle.cs_net.specs.Drivers.{StateElement, data_inputs, data_outputs, read_data, read_element, register_of, signal_of}
 use Rattle.cs_net.specs.Netlist.{Net}
 use Rattle.cs_net.proofs.Members.{append_all}
-use Rattle.cs_lower.specs.Cells.{Placed, cell_parts, class_parts, data_parts, held_parts, memory_parts, placed_cells, read_parts, read_wires, write_parts, write_piece}
+use Rattle.cs_lower.specs.Cells.{cell_parts, class_parts, data_parts, held_parts, memory_parts, placed_cells, read_parts, read_wires, write_parts, write_piece}
 use Rattle.cs_lower.specs.Lowered.{buffer, constants, is_used, pieces_of, wiring_of}
 use Rattle.cs_lower.specs.Registers.{register_chain, register_parts}
 use Rattle.cs_lower.specs.Taps.{Parts, Piece, Tap, in_turn, of_signal, of_vertex, piece}
@@ -123,7 +123,8 @@ module _ (net : Net) (memory : ℕ) (cell : Cell) (shape : MemShape) where
   reads_go_on k n [] before count = record { next = tt; writes = refl; of = tt }
   reads_go_on k n (read ∷ reads) before count =
       let here : List Piece = (read_parts net memory cell shape n (k, read)).pieces in
-      let rest : List Piece = (in_turn (read_parts net memory cell shape) (n + length here) (enumerate_from (k + 1) reads)).pieces in
+      let rest : List Piece =
+      (in_turn (read_parts net memory cell shape) (n + length here) (enumerate_from (k + 1) reads)).pieces in
       let first : ReadsGoOn before here = one_goes_on k read n before count in
       let others : ReadsGoOn (before ++ kinds_of here) rest =
       reads_go_on (k + 1) (n + length here) reads (before ++ kinds_of here) (one_more_read k read n before count) in
@@ -175,7 +176,8 @@ memory_goes_on net n memory cell shape before below =
     let right = first.writes in
     record {
       next = next_join before reads writes first.next
-          (writes_go_on net memory cell shape 0 shape.writes (before ++ kinds_of reads) (omega (arith, both, left, right)));
+          (writes_go_on net memory cell shape 0 shape.writes (before ++ kinds_of reads)
+          (omega (arith, both, left, right)));
       below = below_append (memory + 1) before (kinds_of (reads ++ writes))
           (below_more memory (memory + 1) before (omega arith) below)
           (one_below memory (reads ++ writes)
@@ -188,7 +190,8 @@ unshaped_goes_on : (net : Net) (class : Class) (n j : ℕ) (cell : Cell) (before
 unshaped_goes_on net (GateClass kind) n j cell before below = plain_goes_on before _ j j (omega arith) below (tt, tt)
 unshaped_goes_on net (Register kind) n j cell before below =
     plain_goes_on before _ j j (omega arith) below
-    (none_of_register net n (signal_of cell (codes "Q")) (register_of cell kind) (of_signal (signal_of cell (codes "D"))))
+    (none_of_register net n (signal_of cell (codes "Q")) (register_of cell kind)
+    (of_signal (signal_of cell (codes "D"))))
 unshaped_goes_on net Memory n j cell before below = plain_goes_on before [] j j (omega arith) below tt
 unshaped_goes_on net Scope n j cell before below = plain_goes_on before [] j j (omega arith) below tt
 unshaped_goes_on net Asynchronous n j cell before below = plain_goes_on before [] j j (omega arith) below tt
@@ -201,7 +204,8 @@ shaped_goes_on net (GateClass kind) n j cell shape before below =
     plain_goes_on before _ j (j + 1) (omega arith) below (tt, tt)
 shaped_goes_on net (Register kind) n j cell shape before below =
     plain_goes_on before _ j (j + 1) (omega arith) below
-    (none_of_register net n (signal_of cell (codes "Q")) (register_of cell kind) (of_signal (signal_of cell (codes "D"))))
+    (none_of_register net n (signal_of cell (codes "Q")) (register_of cell kind)
+    (of_signal (signal_of cell (codes "D"))))
 shaped_goes_on net Memory n j cell shape before below = memory_goes_on net n j cell shape before below
 shaped_goes_on net Scope n j cell shape before below = plain_goes_on before [] j (j + 1) (omega arith) below tt
 shaped_goes_on net Asynchronous n j cell shape before below = plain_goes_on before [] j (j + 1) (omega arith) below tt
@@ -220,7 +224,8 @@ cells_go_on net n j (c ∷ cells) (None ∷ shapes) before below =
 cells_go_on net n j (c ∷ cells) (Some s ∷ shapes) before below =
     let here : List Piece = (cell_parts net n (placed c (Some s) j)).pieces in
     let first = shaped_goes_on net c.class n j c s before below in
-    next_join before here (in_turn (cell_parts net) (n + length here) (placed_from (j + 1) cells shapes)).pieces first.next
+    next_join before here (in_turn (cell_parts net) (n + length here) (placed_from (j + 1) cells shapes)).pieces
+    first.next
     (cells_go_on net (n + length here) (j + 1) cells shapes (before ++ kinds_of here) first.below)
 
 -- ---- of a netlist

@@ -1,6 +1,6 @@
 -- The Reads among a netlist's vertices have as many outputs in all as its read ports have data bits, at most.
-use Rattle.std.specs.Prelude.{slice_get, sum}
-use Rattle.std.proofs.Common.{◌≡◌, ℕ, zero, suc, ◌+◌, ◌*◌, ◌≤◌, true, false, List, [], ◌∷◌, ◌++◌, length, map, Option, Some, None, codes, refl, ap, ◌∙◌, arith}
+use Rattle.std.specs.Prelude.{slice_get}
+use Rattle.std.proofs.Common.{◌≡◌, ℕ, ◌+◌, ◌*◌, ◌≤◌, true, false, List, [], ◌∷◌, ◌++◌, length, map, Option, Some, None, codes, refl, ap, ◌∙◌, arith}
 use Rattle.std.specs.List.{AllByRecursion, enumerate_from, sum_by}
 use Rattle.std.proofs.lemmas.List.Sums.{sum-map, sum_by-append, sum_by-cons}
 use Rattle.cs_cells.specs.declared.class.Class.{Class}
@@ -19,7 +19,7 @@ use Rattle.cs_net.specs.Drivers.{register_of, signal_of}
 use Rattle.cs_net.specs.Invariant.{IsWellFormed}
 use Rattle.cs_net.specs.Netlist.{Net}
 use Rattle.cs_lower.specs.Cells.{Placed, cell_parts, class_parts, data_parts, gate_parts, memory_parts, placed_cells, read_parts, write_parts, write_piece}
-use Rattle.cs_lower.specs.Lowered.{buffer, constants, draft_of, is_used, memory_of, pieces_of, wiring_of}
+use Rattle.cs_lower.specs.Lowered.{buffer, constants, draft_of, is_used, pieces_of, wiring_of}
 use Rattle.cs_lower.specs.Registers.{register_parts}
 use Rattle.cs_lower.specs.Taps.{Piece, in_turn, of_signal}
 use Rattle.cs_lower.specs.Wires.{parts_of, port_parts}
@@ -77,7 +77,8 @@ module _ (ms : List GraphMemory) where
     reads_outputs n k [] = omega arith
     reads_outputs n k (read ∷ reads) =
         let here : List Piece = (read_parts net memory cell shape n (k, read)).pieces in
-        let rest : List Piece = (in_turn (read_parts net memory cell shape) (n + length here) (enumerate_from (k + 1) reads)).pieces in
+        let rest : List Piece =
+        (in_turn (read_parts net memory cell shape) (n + length here) (enumerate_from (k + 1) reads)).pieces in
         let both = outputs_join here rest in
         let first = read_outputs n k read in
         let others = reads_outputs (n + length here) (k + 1) reads in
@@ -87,7 +88,8 @@ module _ (ms : List GraphMemory) where
     writes_outputs : (ports : List ℕ) → outputs_in (map (write_piece memory cell shape) ports) ≡ 0
     writes_outputs [] = refl
     writes_outputs (port ∷ ports) =
-        let all = sum_by-cons (read_width ms) (Write memory port) (kinds_of (map (write_piece memory cell shape) ports)) in
+        let all =
+        sum_by-cons (read_width ms) (Write memory port) (kinds_of (map (write_piece memory cell shape) ports)) in
         let rest = writes_outputs ports in
         omega (arith, all, rest)
 
@@ -106,7 +108,8 @@ module _ (ms : List GraphMemory) where
   unshaped_outputs net (GateClass kind) n j cell = plain_outputs (gate_parts n cell kind).pieces (tt, tt)
   unshaped_outputs net (Register kind) n j cell =
       let pieces : List Piece =
-      (register_parts net n (signal_of cell (codes "Q")) (register_of cell kind) (of_signal (signal_of cell (codes "D")))).pieces in
+      (register_parts net n (signal_of cell (codes "Q")) (register_of cell kind)
+      (of_signal (signal_of cell (codes "D")))).pieces in
       plain_outputs pieces (none_of_register net n (signal_of cell (codes "Q")) (register_of cell kind)
       (of_signal (signal_of cell (codes "D"))))
   unshaped_outputs net Memory n j cell = refl
@@ -121,10 +124,12 @@ module _ (ms : List GraphMemory) where
   shaped_outputs : (net : Net) (class : Class) (n j : ℕ) (cell : Cell) (shape : MemShape) → HasWidth j shape
       → outputs_in (class_parts net n class (placed cell (Some shape) j)).pieces ≤ read_bits shape
   shaped_outputs net (GateClass kind) n j cell shape wide =
-      few_where_none (gate_parts n cell kind).pieces (read_bits shape) (plain_outputs (gate_parts n cell kind).pieces (tt, tt))
+      few_where_none (gate_parts n cell kind).pieces (read_bits shape)
+      (plain_outputs (gate_parts n cell kind).pieces (tt, tt))
   shaped_outputs net (Register kind) n j cell shape wide =
       let pieces : List Piece =
-      (register_parts net n (signal_of cell (codes "Q")) (register_of cell kind) (of_signal (signal_of cell (codes "D")))).pieces in
+      (register_parts net n (signal_of cell (codes "Q")) (register_of cell kind)
+      (of_signal (signal_of cell (codes "D")))).pieces in
       few_where_none pieces (read_bits shape) (plain_outputs pieces (none_of_register net n (signal_of cell (codes "Q"))
       (register_of cell kind) (of_signal (signal_of cell (codes "D")))))
   shaped_outputs net Memory n j cell shape wide =
@@ -151,7 +156,8 @@ module _ (ms : List GraphMemory) where
       omega (arith, both, first, rest)
   cells_outputs net n j (c ∷ cells) (Some s ∷ shapes) wide =
       let here : List Piece = (cell_parts net n (placed c (Some s) j)).pieces in
-      let both = outputs_join here (in_turn (cell_parts net) (n + length here) (placed_from (j + 1) cells shapes)).pieces in
+      let both =
+      outputs_join here (in_turn (cell_parts net) (n + length here) (placed_from (j + 1) cells shapes)).pieces in
       let first = shaped_outputs net c.class n j c s (wide.0 s refl) in
       let rest = cells_outputs net (n + length here) (j + 1) cells shapes wide.1 in
       let all = sum_by-cons read_bits s (shapes_in shapes) in
