@@ -4,7 +4,7 @@ use crate::clocks::values_of;
 use crate::machines::{
     inverter_loop, is_edge, is_memory_of_four_words, is_write_of_six_pins, memory_with_two_ports,
 };
-use cs_base::{Contexts, Counted, LimitFault, MemId, VertexId};
+use cs_base::{Contexts, Counted, MemId, VertexId};
 use cs_cells::Kind;
 use cs_graph::{Machine, VertexKind};
 use cs_slow::{SlowError, slow};
@@ -60,37 +60,39 @@ fn edges_without_a_register(rt: HostRuntime) {
     assert!(rt; made.order() == machine.order());
 }
 
+// Two inverters that feed themselves, the first through so many registers and the second through one.
+fn two_inverters(rt: &impl Abort, alloc: Global, registers: usize) -> Machine {
+    let starts = vec![in alloc; true; registers].expect(rt, "starts");
+    let wires: [Wire<'_>; 2] = [(1, 0, 1, starts.as_slice()), (2, 0, 2, &[true])];
+    machine(rt, alloc, &[NOT, NOT], &wires).expect(rt, "a machine")
+}
+
 // How many registers there would be, where they are too many.
-fn found(made: Result<Machine, SlowError>) -> Option<LimitFault> {
+fn too_many(rt: &impl Abort, made: Result<Machine, SlowError>) -> Option<u64> {
     match made {
-        Err(SlowError::Limit(fault)) => Some(fault),
-        _ => None,
+        Ok(_) => None,
+        Err(SlowError::Limit(fault)) => {
+            assert!(rt; fault.what == Counted::Weight && fault.most == 65_536);
+            Some(fault.found)
+        }
+        Err(SlowError::NoMemory) => panic!(rt; "no memory"),
     }
 }
 
-// Two inverters that feed themselves, the second through one register.
 #[test]
 fn limit_of_registers(rt: HostRuntime) {
     let alloc = rt.alloc();
-    let bits = vec![in alloc; true; 65_535].expect(&rt, "bits");
     for (registers, contexts, wanted) in [
-        (4_096, 16, None),
-        (4_097, 16, Some(65_552)),
-        (21_845, 3, None),
-        (21_846, 3, Some(65_538)),
-        (65_536, 1, None),
-        (65_536, 16, Some(1_048_576)),
+        (4_095, 16, None),
+        (4_096, 16, Some(65_552)),
+        (21_844, 3, None),
+        (21_845, 3, Some(65_538)),
+        (65_535, 1, None),
+        (65_535, 16, Some(1_048_576)),
     ] {
-        let wires: [Wire<'_>; 2] = [(1, 0, 1, &bits[..registers - 1]), (2, 0, 2, &[true])];
-        let machine = machine(&rt, alloc, &[NOT, NOT], &wires).expect(&rt, "a machine");
-        let made = slowed(&rt, alloc, &machine, contexts);
-        assert!(rt; made.is_ok() == wanted.is_none(), "{registers}");
-        let fault = wanted.map(|found| LimitFault {
-            what: Counted::Weight,
-            found,
-            most: 65_536,
-        });
-        assert!(rt; found(made) == fault, "{registers}");
+        let machine = two_inverters(&rt, alloc, registers);
+        let found = too_many(&rt, slowed(&rt, alloc, &machine, contexts));
+        assert!(rt; found == wanted, "{registers} for {contexts}");
     }
 }
 

@@ -25,6 +25,13 @@ pub mod WriteLemmas
 pub mod WriteValues
 pub mod MemoryCells
 pub mod NextLemmas
+pub mod PaddedWords
+pub mod RingBits
+pub mod InputPlaces
+pub mod ShownTaps
+pub mod SettledBits
+pub mod HeldStates
+pub mod KeepsAnswers
 pub mod FittingParts
 pub mod FittingCells
 pub mod FittingNets

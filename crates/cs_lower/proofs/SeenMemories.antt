@@ -69,7 +69,7 @@ write_of_parts m address word enable is is' =
     ap (drop m.width) rest ∙ back word enable m.width is' in
     λ i. record { address = a i; word = w i; enable = e i }
 
-taps_of_signals : (tap : Tap → Bool) (v : Valuation) (signals : List Signal)
+pub taps_of_signals : (tap : Tap → Bool) (v : Valuation) (signals : List Signal)
     → ((s : Signal) → tap (of_signal s) ≡ signal_value v s)
     → map tap (map of_signal signals) ≡ map (signal_value v) signals
 taps_of_signals tap v [] same = refl

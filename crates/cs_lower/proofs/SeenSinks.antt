@@ -116,7 +116,7 @@ module _ (net : Net) (bounded : Bool) (clocks : ℕ) (row : ℕ → Row) (value 
     → Words) (run : RunsFor bounded (lowered net) clocks row value words)
   where
     -- what is made of all vertices, by what their pins see, is made of all pieces, by what their taps show
-    made_of_seen : {B : Type 0} (by : VertexKind → List Bool → List B) (n : ℕ) → n < clocks
+    pub made_of_seen : {B : Type 0} (by : VertexKind → List Bool → List B) (n : ℕ) → n < clocks
         → flat_map (λ x. by x.kind (map (seen (lowered net) value n) x.pins)) (lowered net).vertices
         ≡ flat_map (λ p. by p.kind (map (shows net value n) p.pins)) (pieces_of net ++ constants net)
     made_of_seen by n h =

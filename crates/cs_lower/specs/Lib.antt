@@ -8,3 +8,4 @@ pub mod Lowered
 pub mod Meaning
 pub mod Matching
 pub mod Writes
+pub mod Alike
