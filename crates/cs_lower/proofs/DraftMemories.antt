@@ -1,5 +1,5 @@
 -- The memories of a netlist's draft are such as a machine has: their sizes fit one another and the limits.
-use Rattle.std.specs.Prelude.{◌||◌, ◌&&◌, not, nat_lt, slice_get, replicate, sum, flat_map, find}
+use Rattle.std.specs.Prelude.{◌||◌, ◌&&◌, not, nat_lt, ◌⊎◌, slice_get, replicate, sum, flat_map, find}
 use Rattle.std.proofs.Common.{◌≡◌, ℕ, zero, suc, ◌+◌, ◌*◌, ◌^◌, ◌-◌, ◌<◌, ◌≤◌, Bool, true, false, cond, List, [], ◌∷◌, length, map, drop, codes, min, Option, Some, None, refl, sym, ap, subst, ◌∙◌, arith, inl, inr, length-append}
 use Rattle.std.specs.List.{list_any, zip}
 use Rattle.std.proofs.Math.Nat.{min-le_right}
@@ -93,8 +93,8 @@ not_wide (s ∷ shapes) none i shape at = by (nat_lt 20 s.abits) refl none (not_
     by false is none rest zero at = ap (λ x. nat_lt 20 x.abits) (sym (same_Some s shape at)) ∙ is
     by false is none rest (suc i) at = rest none i shape at
 
-few_address_bits : (net : Net) → IsWellFormed net → (i : ℕ) (shape : MemShape)
-    → slice_get (shapes_in net.shapes) i ≡ Some shape → shape.abits ≤ 24
+pub few_address_bits : (net : Net) → IsWellFormed net → (i : ℕ) (shape : MemShape)
+    → slice_get (shapes_in net.shapes) i ≡ Some shape → shape.abits ≤ 20
 unfolding limit_fault
 few_address_bits net w i shape at =
     let narrow = not_wide (shapes_in net.shapes) (all_narrow (length net.cells) net.shapes w.within) i shape at in
@@ -118,57 +118,81 @@ part_of_sum f (y ∷ xs) (suc i) x at =
     let first = sum_by-cons f y xs in
     omega (arith, rest, rest_is, all, first)
 
--- ---- a word has a bit
+-- ---- there is a word, and it has a bit
 
-wide_by_class : (m : Module) (class : Class) (d : CellDecl) (shape : MemShape) → shape_by class d ≡ Some shape
-    → (is_memory class && list_any is_broken (memory_rules m d)) ≡ false → 0 < shape.width
-wide_by_class m (Gate kind) d shape is formed = cc
-wide_by_class m (Register kind) d shape is formed = cc
-wide_by_class m Memory d shape is formed = elim (cases_lt 0 shape.width) [
-  | inl wide ↦ wide
-  | inr narrow ↦ absurd (broken (omega (arith, narrow)))
-]
+-- a memory's size and the width of its words aren't 0
+record HasBits (shape : MemShape) : Type 0 where
+  size : 0 < shape.size
+  width : 0 < shape.width
+
+bits_by_class : (m : Module) (class : Class) (d : CellDecl) (shape : MemShape) → shape_by class d ≡ Some shape
+    → (is_memory class && list_any is_broken (memory_rules m d)) ≡ false → HasBits shape
+bits_by_class m (Gate kind) d shape is formed = cc
+bits_by_class m (Register kind) d shape is formed = cc
+bits_by_class m Memory d shape is formed =
+    record { size = at_least size_broken (cases_lt 0 shape.size); width = at_least width_broken (cases_lt 0 shape.width) }
   where
+    at_least : {n : ℕ} → (n ≡ 0 → ⊥) → (0 < n) ⊎ (n ≤ 0) → 0 < n
+    at_least broken (inl some) = some
+    at_least broken (inr none) = absurd (broken (omega (arith, none)))
+
+    first : (a rest : Bool) → (a || rest) ≡ false → a ≡ false
+    first true rest none = cc
+    first false rest none = refl
+
     second : (a b rest : Bool) → (a || (b || rest)) ≡ false → b ≡ false
     second true b rest none = cc
     second false true rest none = cc
     second false false rest none = refl
 
+    same : memory_shape d ≡ shape
+    same = same_Some (memory_shape d) shape is
+
+    size : ℕ
+    size = number_at d (codes "SIZE")
+
     width : ℕ
     width = number_at d (codes "WIDTH")
 
-    broken : shape.width ≡ 0 → ⊥
-    broken none =
-        let same : width ≡ shape.width = ap (λ s. s.width) (same_Some (memory_shape d) shape is) in
-        let rule : not (nat_lt 0 width) ≡ false =
-        second (not (nat_lt 0 (number_at d (codes "SIZE")))) (not (nat_lt 0 width))
-        (list_any is_broken (drop 2 (memory_rules m d))) formed in
-        let clash : true ≡ false = sym (ap (λ n. not (nat_lt 0 n)) (same ∙ none)) ∙ rule in
-        cc
-wide_by_class m Scope d shape is formed = cc
-wide_by_class m Asynchronous d shape is formed = cc
-wide_by_class m NotFine d shape is formed = cc
-wide_by_class m Unknown d shape is formed = cc
+    clash : {n k : ℕ} → n ≡ k → not (nat_lt 0 n) ≡ false → k ≡ 0 → ⊥
+    clash is rule none = let true_is : true ≡ false = sym (ap (λ n. not (nat_lt 0 n)) (is ∙ none)) ∙ rule in cc
 
-some_bits : (net : Net) → IsWellFormed net → (i : ℕ) (shape : MemShape)
-    → slice_get (shapes_in net.shapes) i ≡ Some shape → 0 < shape.width
+    size_broken : shape.size ≡ 0 → ⊥
+    size_broken =
+        clash (ap (λ s. s.size) same) (first (not (nat_lt 0 size)) (list_any is_broken (drop 1 (memory_rules m d))) formed)
+
+    width_broken : shape.width ≡ 0 → ⊥
+    width_broken =
+        clash (ap (λ s. s.width) same)
+        (second (not (nat_lt 0 size)) (not (nat_lt 0 width)) (list_any is_broken (drop 2 (memory_rules m d))) formed)
+bits_by_class m Scope d shape is formed = cc
+bits_by_class m Asynchronous d shape is formed = cc
+bits_by_class m NotFine d shape is formed = cc
+bits_by_class m Unknown d shape is formed = cc
+
+has_bits : (net : Net) → IsWellFormed net → (i : ℕ) (shape : MemShape)
+    → slice_get (shapes_in net.shapes) i ≡ Some shape → HasBits shape
 unfolding net_of
-some_bits net w i shape at =
+has_bits net w i shape at =
     let place : HasPlace net.shapes 0 i shape = place_of_shape net.shapes 0 i shape at in
     let ds : List CellDecl = cells_of w.«module» in
     let shapes : net.shapes ≡ map shape_of ds = ap (λ (n : Net). n.shapes) w.is in
     let d = map_at shape_of ds place.at (Some shape) (ap (λ xs. slice_get xs place.at) (sym shapes) ∙ place.stands) in
-    wide_by_class w.«module» (class_at d.0) d.0 shape d.2
+    bits_by_class w.«module» (class_at d.0) d.0 shape d.2
     (of_all (λ d. is_misformed w.«module» d ≡ false) ds place.at d.0 (none_misformed w.«module» w.early) d.1)
+
+pub some_size : (net : Net) → IsWellFormed net → (i : ℕ) (shape : MemShape)
+    → slice_get (shapes_in net.shapes) i ≡ Some shape → 0 < shape.size
+some_size net w i shape at = (has_bits net w i shape at).size
 
 -- ---- the words at the start
 
 -- words of one width, in a row
-record HasLength (words : Words) (n width : ℕ) : Type 0 where
-  count : length words ≡ n
-  bits : length (flat_map (λ w. w) words) ≡ n * width
+pub record HasLength (words : Words) (n width : ℕ) : Type 0 where
+  pub count : length words ≡ n
+  pub bits : length (flat_map (λ w. w) words) ≡ n * width
 
-words_in_row : (words : Words) (n width : ℕ) → map length words ≡ replicate n width → HasLength words n width
+pub words_in_row : (words : Words) (n width : ℕ) → map length words ≡ replicate n width → HasLength words n width
 words_in_row [] zero width same = record { count = refl; bits = omega arith }
 words_in_row [] (suc n) width same = cc
 words_in_row (word ∷ words) zero width same = cc
@@ -196,7 +220,7 @@ filled_length count n width words same few =
 
 -- ---- memories
 
-zip_at : {A B : Type 0} (xs : List A) (ys : List B) (i : ℕ) (e : A × B) → slice_get (zip xs ys) i ≡ Some e
+pub zip_at : {A B : Type 0} (xs : List A) (ys : List B) (i : ℕ) (e : A × B) → slice_get (zip xs ys) i ≡ Some e
     → (slice_get xs i ≡ Some e.0) × (slice_get ys i ≡ Some e.1)
 zip_at [] ys i e at = absurd (none-some e at)
 zip_at (x ∷ xs) [] i e at = absurd (none-some e at)
@@ -212,10 +236,11 @@ memory_fits net w i words shape at is =
     let few = has_few net w in
     let most = few.memory in
     let part = part_of_sum memory_bits (shapes_in net.shapes) i shape is in
+    let narrow = few_address_bits net w i shape is in
     record {
-      address_bits = few_address_bits net w i shape is;
+      address_bits = omega (arith, narrow);
       some_words = pow_pos shape.abits;
-      some_bits = some_bits net w i shape is;
+      some_bits = (has_bits net w i shape is).width;
       reached = omega arith;
       size = omega (arith, part, most);
       start = filled_length (2 ^ shape.abits) (word_count shape) shape.width words.words
@@ -230,7 +255,7 @@ each_memory net w i m at =
     let both = zip_at net.memories (shapes_in net.shapes) i pair.0 pair.1 in
     subst IsMemory pair.2 (memory_fits net w i pair.0.0 pair.0.1 both.0 both.1)
 
-zip_length : {A B : Type 0} (xs : List A) (ys : List B) → length (zip xs ys) ≤ length ys
+pub zip_length : {A B : Type 0} (xs : List A) (ys : List B) → length (zip xs ys) ≤ length ys
 zip_length [] ys = omega arith
 zip_length (x ∷ xs) [] = omega arith
 zip_length (x ∷ xs) (y ∷ ys) = let rest = zip_length xs ys in omega (arith, rest)
