@@ -1,0 +1,2 @@
+pub mod ContextStarts
+pub mod Bankable

@@ -1,0 +1,2 @@
+//! From an accepted netlist to the graph that one machine for several contexts has.
+#![tactic(auto)]
