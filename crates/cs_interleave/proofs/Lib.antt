@@ -1,2 +1,3 @@
 pub mod ContextStarts
 pub mod Bankable
+pub mod Isolated
