@@ -1,20 +1,20 @@
 -- The graph of a netlist that is slowed for several contexts can be banked for them.
-use Rattle.std.specs.Prelude.{slice_get, slice_index_or, flat_map, get_or, min, option_map, replicate, Option, Some, None}
+use Rattle.std.specs.Prelude.{slice_get, flat_map, get_or, min, replicate, Option, Some, None}
 use Rattle.std.specs.List.{AllByRecursion, zip}
-use Rattle.std.proofs.Common.{◌≡◌, ℕ, zero, suc, ◌+◌, ◌-◌, ◌*◌, ◌^◌, ◌<◌, ◌≤◌, Bool, false, List, [], ◌∷◌, ◌++◌, length, map, refl, sym, ap, subst, ◌∙◌, arith, mul-le-mul_right}
-use Rattle.std.proofs.lemmas.List.{get_or_past, length-map, length-replicate}
-use Rattle.std.proofs.lemmas.Option.{none-some, same_Some, slice_get_within}
+use Rattle.std.proofs.Common.{◌≡◌, ℕ, zero, suc, ◌-◌, ◌*◌, ◌^◌, ◌<◌, ◌≤◌, Bool, false, List, [], ◌∷◌, ◌++◌, length, map, refl, sym, ap, subst, ◌∙◌, arith, mul-le-mul_right}
+use Rattle.std.proofs.lemmas.List.{length-map}
+use Rattle.std.proofs.lemmas.Option.{none-some, same_Some}
 use Rattle.std.proofs.lemmas.Slice.Zip.{length-zip}
 use Rattle.cs_bank.specs.Bank.{CanBank, FitsMemory, IsWhole}
 use Rattle.cs_cells.specs.declared.memory.MemShape.{MemShape}
-use Rattle.cs_cells.specs.Memories.{Words, word_count}
+use Rattle.cs_cells.specs.Memories.{word_count}
 use Rattle.cs_graph.specs.declared.edge.Edge.{Edge}
 use Rattle.cs_graph.specs.declared.graph.Graph.{Graph}
 use Rattle.cs_graph.specs.declared.memory.Memory.{Memory}
 use Rattle.cs_graph.specs.Past.{IsSlowedBy}
 use Rattle.cs_graph.specs.Slow.{slow, slow_edge}
-use Rattle.cs_lower.specs.Lowered.{draft_of, filled, lowered, memory_of}
-use Rattle.cs_lower.proofs.DraftMemories.{HasLength, few_address_bits, some_size, words_in_row, zip_at}
+use Rattle.cs_lower.specs.Lowered.{lowered, memory_of}
+use Rattle.cs_lower.proofs.DraftMemories.{few_address_bits, some_size, words_in_row, zip_at}
 use Rattle.cs_modules.specs.Memories.{shapes_in}
 use Rattle.cs_net.specs.declared.images.Images.{Images}
 use Rattle.cs_net.specs.declared.state.MemoryWords.{MemoryWords}
@@ -73,7 +73,8 @@ whole_memory words shape some narrow wide = record {
       (words_in_row words.words (word_count shape) shape.width wide).bits past);
 }
 
-fitting_entry : (c : ℕ) (words : MemoryWords) (shape : MemShape) → map length words.words ≡ replicate (word_count shape) shape.width
+fitting_entry : (c : ℕ) (words : MemoryWords) (shape : MemShape)
+    → map length words.words ≡ replicate (word_count shape) shape.width
     → (entry : Option (List Image)) → AreImagesOf c words entry → FitsMemory c (memory_of (words, shape)) entry
 fitting_entry c words shape wide None are = tt
 fitting_entry c words shape wide (Some images) are = (are.0, long images are.1)
@@ -85,7 +86,8 @@ fitting_entry c words shape wide (Some images) are = (are.0, long images are.1)
 
 -- the entry of a memory is images of it
 entry_of : (c : ℕ) (ms : List MemoryWords) (entries : List (Option (List Image)))
-    → AllByRecursion (λ e. AreImagesOf c e.0 e.1) (zip ms entries) → (i : ℕ) (m : MemoryWords) (entry : Option (List Image))
+    → AllByRecursion (λ e. AreImagesOf c e.0 e.1) (zip ms entries)
+    → (i : ℕ) (m : MemoryWords) (entry : Option (List Image))
     → slice_get ms i ≡ Some m → slice_get entries i ≡ Some entry → AreImagesOf c m entry
 entry_of c [] entries are i m entry at given = absurd (none-some m at)
 entry_of c (x ∷ ms) [] are i m entry at given = absurd (none-some entry given)
@@ -98,7 +100,8 @@ entry_of c (x ∷ ms) (y ∷ entries) are (suc i) m entry at given = entry_of c 
 
 module _ (net : Net) (w : IsWellFormed net) (images : Images) (c : ℕ) (are : AreImagesFor net c images) where
   module _ (i : ℕ) (m : Memory) (at : slice_get (lowered net).memories i ≡ Some m) where
-    pair : (p : MemoryWords × MemShape) × (slice_get (zip net.memories (shapes_in net.shapes)) i ≡ Some p) × (memory_of p ≡ m)
+    pair : (p : MemoryWords × MemShape)
+        × (slice_get (zip net.memories (shapes_in net.shapes)) i ≡ Some p) × (memory_of p ≡ m)
     pair = map_at memory_of (zip net.memories (shapes_in net.shapes)) i m at
 
     words_at : slice_get net.memories i ≡ Some pair.0.0
@@ -113,12 +116,14 @@ module _ (net : Net) (w : IsWellFormed net) (images : Images) (c : ℕ) (are : A
     is_whole : IsWhole m
     is_whole =
         subst IsWhole pair.2
-        (whole_memory pair.0.0 pair.0.1 (some_size net w i pair.0.1 shape_at) (few_address_bits net w i pair.0.1 shape_at) wide)
+        (whole_memory pair.0.0 pair.0.1 (some_size net w i pair.0.1 shape_at)
+        (few_address_bits net w i pair.0.1 shape_at) wide)
 
     fits : (entry : Option (List Image)) → slice_get images.of i ≡ Some entry → FitsMemory c m entry
     fits entry given =
         subst (λ (x : Memory). FitsMemory c x entry) pair.2
-        (fitting_entry c pair.0.0 pair.0.1 wide entry (entry_of c net.memories images.of are.each i pair.0.0 entry words_at given))
+        (fitting_entry c pair.0.0 pair.0.1 wide entry
+        (entry_of c net.memories images.of are.each i pair.0.0 entry words_at given))
 
   entry_count : length images.of ≡ length (lowered net).memories
   entry_count =
@@ -130,4 +135,9 @@ module _ (net : Net) (w : IsWellFormed net) (images : Images) (c : ℕ) (are : A
 
   -- it can be banked, slowed for as many contexts as the images are for
   pub can_bank : CanBank c images.of (slow c (lowered net))
-  can_bank = record { slowed = slowed_by c (lowered net); whole = is_whole; count = entry_count; images = λ i m entry at given. fits i m at entry given }
+  can_bank = record {
+    slowed = slowed_by c (lowered net);
+    whole = is_whole;
+    count = entry_count;
+    images = λ i m entry at given. fits i m at entry given;
+  }

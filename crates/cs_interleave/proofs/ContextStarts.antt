@@ -1,7 +1,7 @@
 -- The graph of a netlist with the start of a context is that of the netlist, with the context's words in its memories.
-use Rattle.std.specs.Prelude.{slice_get, slice_index_or, slice_range, flat_map, sum, replicate, Option, Some, None}
+use Rattle.std.specs.Prelude.{slice_index_or, slice_range, flat_map, replicate, Option, Some, None}
 use Rattle.std.specs.List.{AllByRecursion, enumerate_from, sum_by, zip}
-use Rattle.std.proofs.Common.{◌≡◌, ℕ, zero, suc, ◌+◌, ◌-◌, ◌*◌, ◌^◌, ◌<◌, ◌≤◌, Bool, false, List, [], ◌∷◌, ◌++◌, length, map, take, drop, refl, sym, ap, ap₂, subst, ◌∙◌, arith}
+use Rattle.std.proofs.Common.{◌≡◌, ℕ, zero, suc, ◌+◌, ◌-◌, ◌*◌, ◌^◌, ◌<◌, ◌≤◌, false, List, [], ◌∷◌, ◌++◌, length, map, drop, refl, sym, ap, ap₂, ◌∙◌, arith}
 use Rattle.std.proofs.Math.Nat.{min-le_right}
 use Rattle.std.proofs.lemmas.List.{drop_all, length-map}
 use Rattle.std.proofs.lemmas.List.Folds.{drop_split}
@@ -11,13 +11,12 @@ use Rattle.cs_bank.proofs.StartLemmas.{drop_none}
 use Rattle.cs_bank.specs.Starts.{filled as filled_bits, memory_in, of_context as graph_of_context, with_entries}
 use Rattle.cs_cells.specs.declared.memory.MemShape.{MemShape}
 use Rattle.cs_cells.specs.Memories.{Words, word_count}
-use Rattle.cs_graph.specs.declared.graph.Graph.{Graph}
 use Rattle.cs_graph.specs.declared.memory.Memory.{Memory}
-use Rattle.cs_graph.specs.Draft.{Draft, built}
+use Rattle.cs_graph.specs.Draft.{built}
 use Rattle.cs_lower.specs.Followed.{followed}
 use Rattle.cs_lower.specs.Lowered.{draft_of, filled, lowered, memory_of}
 use Rattle.cs_lower.specs.Wires.{parts_of}
-use Rattle.cs_lower.proofs.DraftMemories.{HasLength, words_in_row}
+use Rattle.cs_lower.proofs.DraftMemories.{words_in_row}
 use Rattle.cs_modules.specs.Memories.{shapes_in}
 use Rattle.cs_net.specs.declared.images.Images.{Images}
 use Rattle.cs_net.specs.declared.state.MemoryWords.{MemoryWords}
@@ -29,7 +28,8 @@ use Rattle.cs_net.proofs.MemoryWidths.{memories_wide}
 
 -- ---- vertices
 
-same_vertices : (net : Net) (ms : List MemoryWords) → (draft_of (record net { memories = ms })).vertices ≡ (draft_of net).vertices
+same_vertices : (net : Net) (ms : List MemoryWords)
+    → (draft_of (record net { memories = ms })).vertices ≡ (draft_of net).vertices
 unfolding driver_of followed parts_of
 same_vertices net ms = refl
 
@@ -38,7 +38,8 @@ same_vertices net ms = refl
 -- from word i on, the words that an image is cut into have its bits from there on
 cut_bits : (image : Image) (count width i : ℕ) (words : Words) → map length words ≡ replicate count width
     → length image ≡ (i + count) * width
-    → flat_map (λ w. w) (map (λ e. slice_range image (e.0 * length e.1) (e.0 * length e.1 + length e.1)) (enumerate_from i words))
+    → flat_map (λ w. w)
+    (map (λ e. slice_range image (e.0 * length e.1) (e.0 * length e.1 + length e.1)) (enumerate_from i words))
     ≡ drop (i * width) image
 cut_bits image zero width i [] same long =
     let all : (i + 0) * width ≡ i * width = omega arith in
@@ -87,7 +88,8 @@ same_fill : (all count width : ℕ) (words : Words) (image : Image) → map leng
     → filled_bits (all * width) image ≡ filled all width (image_words words image)
 same_fill all count width words image same few is =
     let bits = image_bits count width words image same is in
-    let cut = length-map (enumerate_from 0 words) (λ e. slice_range image (e.0 * length e.1) (e.0 * length e.1 + length e.1)) in
+    let cut = length-map (enumerate_from 0 words)
+    (λ e. slice_range image (e.0 * length e.1) (e.0 * length e.1 + length e.1)) in
     let listed = length-enumerate_from 0 words in
     let number = (words_in_row words count width same).count in
     let made : length (image_words words image) ≡ count = cut ∙ listed ∙ number in
@@ -106,7 +108,8 @@ image_at words k [] below all = absurd (omega (arith, below))
 image_at words zero (image ∷ images) below all = all.0
 image_at words (suc k) (image ∷ images) below all = image_at words k images (omega (arith, below)) all.1
 
-same_memory : (k c : ℕ) (m : MemoryWords) (shape : MemShape) → map length m.words ≡ replicate (word_count shape) shape.width
+same_memory : (k c : ℕ) (m : MemoryWords) (shape : MemShape)
+    → map length m.words ≡ replicate (word_count shape) shape.width
     → k < c → (entry : Option (List Image)) → AreImagesOf c m entry
     → memory_in k (memory_of (m, shape)) entry ≡ memory_of (with_image k m entry, shape)
 same_memory k c m shape wide below None are = refl
@@ -128,7 +131,8 @@ same_memories k c below (m ∷ ms) [] same entries count are = absurd (cc)
 same_memories k c below (m ∷ ms) (shape ∷ shapes) same [] count are = absurd (omega (arith, count))
 same_memories k c below (m ∷ ms) (shape ∷ shapes) same (entry ∷ entries) count are =
     let first : map length m.words ≡ replicate (word_count shape) shape.width = cc in
-    let rest : map (λ (m : MemoryWords). map length m.words) ms ≡ map (λ (s : MemShape). replicate (word_count s) s.width) shapes = cc in
+    let rest : map (λ (m : MemoryWords). map length m.words) ms
+        ≡ map (λ (s : MemShape). replicate (word_count s) s.width) shapes = cc in
     ap₂ (λ x xs. x ∷ xs) (same_memory k c m shape first below entry are.0)
     (same_memories k c below ms shapes rest entries (omega (arith, count)) are.1)
 
@@ -138,6 +142,7 @@ same_memories k c below (m ∷ ms) (shape ∷ shapes) same (entry ∷ entries) c
 pub start_of_context : (net : Net) (images : Images) (c k : ℕ) → IsWellFormed net → AreImagesFor net c images → k < c
     → graph_of_context k images.of (lowered net) ≡ lowered (of_context net images k)
 start_of_context net images c k w are below =
-    let same = same_memories k c below net.memories (shapes_in net.shapes) (memories_wide net w) images.of are.count are.each in
+    let same =
+    same_memories k c below net.memories (shapes_in net.shapes) (memories_wide net w) images.of are.count are.each in
     ap₂ (λ vertices memories. built (record { vertices = vertices; memories = memories }))
     (sym (same_vertices net (with_images k net.memories images.of))) same

@@ -1,8 +1,7 @@
 -- The graph of a netlist for several contexts answers each of them as the netlist alone does.
-use Rattle.std.proofs.Common.{◌≡◌, ℕ, ◌<◌, true, List, subst}
+use Rattle.std.proofs.Common.{ℕ, true, List, subst}
 use Rattle.cs_base.specs.Parts.{part}
 use Rattle.cs_bank.proofs.Answered.{answers_each_alone}
-use Rattle.cs_graph.specs.declared.graph.Graph.{Graph}
 use Rattle.cs_graph.specs.Invariant.{IsWithinLimits}
 use Rattle.cs_graph.specs.Run.{RunsWith}
 use Rattle.cs_interleave.specs.Interleaved.{interleaved}
@@ -25,8 +24,8 @@ use Rattle.cs_net.proofs.OtherWords.{well_formed_with}
 -- ---- a netlist with other words
 
 -- what a netlist does from a state doesn't hang on the words that are its own
-trace_with : (net : Net) (ms : List MemoryWords) (from : NetState) (rows : List Row) (bits : ℕ → Valuation) (state : ℕ → NetState)
-    → IsTrace (record net { memories = ms }) from rows bits state → IsTrace net from rows bits state
+trace_with : (net : Net) (ms : List MemoryWords) (from : NetState) (rows : List Row) (bits : ℕ → Valuation)
+    (state : ℕ → NetState) → IsTrace (record net { memories = ms }) from rows bits state → IsTrace net from rows bits state
 unfolding driver_of
 trace_with net ms from rows bits state t = record { begins = t.begins; settles = t.settles; goes_on = t.goes_on }
 
@@ -42,19 +41,21 @@ answers_with net ms from rows answer a = record {
 
 -- ---- contexts
 
-module _ (net : Net) (w : IsWellFormed net) (images : Images) (c : ℕ) (are : AreImagesFor net c images) (limits : IsWithinLimits (lowered net)) where
+module _ (net : Net) (w : IsWellFormed net) (images : Images) (c : ℕ) (are : AreImagesFor net c images)
+    (limits : IsWithinLimits (lowered net)) where
   -- the graph of a netlist for several contexts isolates them
   pub isolates_contexts : IsolatesContexts net images c (interleaved net images c)
   isolates_contexts k rows outputs below r =
       let own : Net = of_context net images k in
-      let bare = answers_each_alone (lowered net) (lowered_machine net w limits) c images.of (can_bank net w images c are)
-      k rows outputs below r in
+      let bare = answers_each_alone (lowered net) (lowered_machine net w limits) c images.of
+      (can_bank net w images c are) k rows outputs below r in
       let graph : RunsWith true (lowered own) (part k c rows) (part k c outputs) =
-      subst (λ g. RunsWith true g (part k c rows) (part k c outputs)) (start_of_context net images c k w are below) bare in
+      subst (λ g. RunsWith true g (part k c rows) (part k c outputs))
+      (start_of_context net images c k w are below) bare in
       let whole : IsWellFormed own =
       well_formed_with net (with_images k net.memories images.of) w (images_alike net images k c w are below) in
       record {
-        netlist = answers_with net (with_images k net.memories images.of) (state_of (own_start own)) (part k c rows) (part k c outputs)
-            (run_answers own whole (part k c rows) (part k c outputs) graph);
+        netlist = answers_with net (with_images k net.memories images.of) (state_of (own_start own)) (part k c rows)
+            (part k c outputs) (run_answers own whole (part k c rows) (part k c outputs) graph);
         graph = graph;
       }

@@ -1,3 +1,4 @@
+mod Examples
 pub mod ContextStarts
 pub mod Bankable
 pub mod Isolated
