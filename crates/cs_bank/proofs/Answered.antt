@@ -64,8 +64,12 @@ module _ (g : Graph) (is : IsMachine g) where
         → (m : Memory) × (slice_get g.memories memory ≡ Some m) × (length x.pins ≡ m.abits + 2 * m.width)
     write_pins_of memory port kind =
         let has = subst (HasMemory g.memories) kind (is.memories.there v x.kind (get_kind g.vertices v x found)) in
-        let own = there g.memories memory has in
-        (own.0, own.1, is.pins v x found ∙ ap (pin_count g.memories) kind ∙ ap (λ o. address_bits o + 2 * word_bits o) own.1)
+        let own = there g.memories memory has in (
+          own.0,
+          own.1,
+          is.pins v x found ∙ ap (pin_count g.memories) kind
+              ∙ ap (λ o. address_bits o + 2 * word_bits o) own.1,
+        )
 
     next_port : (memory port : ℕ) → x.kind ≡ Write memory port
         → port ≡ count_by (is_write_of memory) (take v (open_kinds (wired g).vertices))
@@ -77,8 +81,12 @@ module _ (g : Graph) (is : IsMachine g) where
   ports_of = record {
     reads = λ v memory port y found kind.
         let old = was_in (wired_vertex g.edges) g.vertices v y found in
-        let own = read_pins v old.0 old.1 memory port (ap (λ (z : OpenVertex). z.kind) old.2 ∙ kind) in
-        (own.0, own.1, sym (ap (λ (z : OpenVertex). length z.pins) old.2) ∙ length-map old.0.pins (feed_source g.edges) ∙ own.2);
+        let own = read_pins v old.0 old.1 memory port (ap (λ (z : OpenVertex). z.kind) old.2 ∙ kind) in (
+          own.0,
+          own.1,
+          sym (ap (λ (z : OpenVertex). length z.pins) old.2) ∙ length-map old.0.pins (feed_source g.edges)
+              ∙ own.2,
+        );
     writes = λ v memory port y found kind.
         let old = was_in (wired_vertex g.edges) g.vertices v y found in
         let same = ap (λ (z : OpenVertex). z.kind) old.2 ∙ kind in
@@ -100,7 +108,8 @@ module _ (g : Graph) (is : IsMachine g) where
   feed_above (Tied b) = omega arith
   feed_above (Along e) = edge_above e (slice_get g.edges e) refl
 
-  pins_above : (fs : List Feed) (i : ℕ) (k : Driver) → slice_get (map (feed_source g.edges) fs) i ≡ Some (Some (Driven k))
+  pins_above : (fs : List Feed) (i : ℕ) (k : Driver)
+      → slice_get (map (feed_source g.edges) fs) i ≡ Some (Some (Driven k))
       → k.from < length g.vertices
   unfolding above
   pins_above [] i k at = absurd (none-some (Some (Driven k)) at)
@@ -110,7 +119,8 @@ module _ (g : Graph) (is : IsMachine g) where
       omega (arith, low, same)
   pins_above (f ∷ fs) (suc i) k at = pins_above fs i k at
 
-  can_of : (c : ℕ) (entries : List (Option (List Image))) → CanBank c entries (slow c g) → CanBankDraft c entries (wired g)
+  can_of : (c : ℕ) (entries : List (Option (List Image))) → CanBank c entries (slow c g)
+      → CanBankDraft c entries (wired g)
   can_of c entries can = record {
     ports = ports_of;
     whole = can.whole;
@@ -159,8 +169,10 @@ module _ (g : Graph) (none : g.memories ≡ []) where
 
 -- ---- with memories
 
-module _ (g : Graph) (is : IsMachine g) (c : ℕ) (entries : List (Option (List Image))) (can : CanBankDraft c entries (wired g)) (k : ℕ)
-    (below : k < c) (rows outputs : List Row) (r : RunsWith false (built (banked c entries (slow_draft c (wired g)))) rows outputs) where
+module _ (g : Graph) (is : IsMachine g) (c : ℕ) (entries : List (Option (List Image)))
+    (can : CanBankDraft c entries (wired g)) (k : ℕ)
+    (below : k < c) (rows outputs : List Row)
+    (r : RunsWith false (built (banked c entries (slow_draft c (wired g)))) rows outputs) where
   abbrev draft : Draft
   draft = banked c entries (slow_draft c (wired g))
 
@@ -168,7 +180,8 @@ module _ (g : Graph) (is : IsMachine g) (c : ℕ) (entries : List (Option (List 
   own = of_context k entries g
 
   drafted : DraftRuns false draft (length rows) (row_of rows) r.value r.words
-  drafted = to_draft (built draft) draft refl r.value (built_alike draft r.value) false (length rows) (row_of rows) r.words r.run
+  drafted = to_draft (built draft) draft refl r.value (built_alike draft r.value) false (length rows)
+      (row_of rows) r.words r.run
 
   alone_value : ℕ → Outs
   alone_value = alone c entries (wired g) can k below (length rows) (row_of rows) r.value r.words drafted
@@ -182,8 +195,10 @@ module _ (g : Graph) (is : IsMachine g) (c : ℕ) (entries : List (Option (List 
   own_run : RunsFor true own (length (part k c rows)) (row_of (part k c rows)) alone_value alone_words
   unfolding alone_value alone_words
   own_run =
-      from_draft own (draft_of_context k entries (wired g)) refl alone_value own_alike true (length (part k c rows)) (row_of (part k c rows)) alone_words
-      (context_run c entries (wired g) can k below (length rows) (row_of rows) r.value r.words drafted (length (part k c rows)) (row_of (part k c rows))
+      from_draft own (draft_of_context k entries (wired g)) refl alone_value own_alike true (length (part k c rows))
+      (row_of (part k c rows)) alone_words
+      (context_run c entries (wired g) can k below (length rows) (row_of rows) r.value r.words drafted
+      (length (part k c rows)) (row_of (part k c rows))
       (λ n h. (part_in rows k c n below).0 h) (λ n h. sym (get_or-part rows k c n [] below)))
 
   own_answers : RunsWith true own (part k c rows) (part k c outputs)
@@ -193,7 +208,8 @@ module _ (g : Graph) (is : IsMachine g) (c : ℕ) (entries : List (Option (List 
     words = alone_words;
     run = own_run;
     shows = record {
-      count = length-part outputs k c below ∙ ap (λ n. (n + c - 1 - k) / c) r.shows.count ∙ sym (length-part rows k c below);
+      count = length-part outputs k c below ∙ ap (λ n. (n + c - 1 - k) / c) r.shows.count
+          ∙ sym (length-part rows k c below);
       each = λ n h.
           let inside = (part_in rows k c n below).0 h in
           get_or-part outputs k c n [] below

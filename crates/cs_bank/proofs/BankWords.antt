@@ -41,7 +41,8 @@ set_other ws size k q i x h other = elim (cases_lt q k) [
         let d = q - suc k in
         let is : q ≡ k + suc d = omega (arith, above) in
         let place : q * size + i ≡ k * size + (size + (d * size + i)) = ap (λ n. n * size + i) is ∙ omega arith in
-        rw place (ap (take size) (drop-set-add (k * size) ws (size + (d * size + i)) x) ∙ take-set-le size (drop (k * size) ws) (size + (d * size + i)) x (omega arith))
+        rw place (ap (take size) (drop-set-add (k * size) ws (size + (d * size + i)) x)
+        ∙ take-set-le size (drop (k * size) ws) (size + (d * size + i)) x (omega arith))
     | inr most ↦ absurd (other (omega (arith, more, most)))
   ]
 ]
@@ -55,8 +56,10 @@ pub read_same : (ws : Words) (size k : ℕ) (address context : List Bool) (place
 unfolding read_bit
 read_same ws size k address context place is at =
     let below = number_below address in
-    let sum : number_of (address ++ context) ≡ k * size + number_of address = number_of-append address context ∙ rw (at, is) (omega arith) in
-    ap (λ i. get_or (get_or ws i []) place false) sum ∙ ap (λ (word : Word). get_or word place false) (word_same ws size k (number_of address) (omega arith))
+    let sum : number_of (address ++ context) ≡ k * size + number_of address = number_of-append address context
+    ∙ rw (at, is) (omega arith) in
+    ap (λ i. get_or (get_or ws i []) place false) sum
+    ∙ ap (λ (word : Word). get_or word place false) (word_same ws size k (number_of address) (omega arith))
 
 -- ---- writes of a context
 
@@ -85,9 +88,11 @@ pub record Banked (size limit q : ℕ) (w w' : Write) : Type 0 where
   pub word : w'.word ≡ w.word
   pub enable : w'.enable ≡ map (λ e. e && nat_lt (number_of w.address) limit) w.enable
 
-merged_at : (ws : Words) (size k : ℕ) (w w' : Write) (enable : List Bool) → number_of w'.address ≡ k * size + number_of w.address
+merged_at : (ws : Words) (size k : ℕ) (w w' : Write) (enable : List Bool)
+    → number_of w'.address ≡ k * size + number_of w.address
     → number_of w.address < size → w'.word ≡ w.word → w'.enable ≡ enable
-    → bank_words size k (after_write ws w') ≡ set (bank_words size k ws) (number_of w.address) (merged_word (word_at (bank_words size k ws) w.address) w.word enable)
+    → bank_words size k (after_write ws w') ≡ set (bank_words size k ws) (number_of w.address)
+    (merged_word (word_at (bank_words size k ws) w.address) w.word enable)
 unfolding after_write
 merged_at ws size k w w' enable address inside word on =
     let x' = merged_word (word_at ws w'.address) w'.word w'.enable in
@@ -104,12 +109,15 @@ unfolding after_write
 written_same ws size k m w w' b = elim (cases_lt (number_of w.address) m.size) [
   | inl less ↦
       let on = lt-ltb (number_of w.address) m.size less in
-      merged_at ws size k w w' w.enable b.address b.inside b.word (b.enable ∙ ap (λ t. map (λ e. e && t) w.enable) on ∙ all_on w.enable)
+      merged_at ws size k w w' w.enable b.address b.inside b.word (b.enable ∙ ap (λ t. map (λ e. e && t) w.enable) on
+      ∙ all_on w.enable)
       ∙ sym (ap (λ t. if not t then bank_words size k ws else after_write (bank_words size k ws) w) on)
   | inr more ↦
       let off = le-ltb (number_of w.address) m.size more in
-      merged_at ws size k w w' (map (λ e. e && false) w.enable) b.address b.inside b.word (b.enable ∙ ap (λ t. map (λ e. e && t) w.enable) off)
-      ∙ ap (set (bank_words size k ws) (number_of w.address)) (merged_off (word_at (bank_words size k ws) w.address) w.word w.enable)
+      merged_at ws size k w w' (map (λ e. e && false) w.enable) b.address b.inside b.word (b.enable
+      ∙ ap (λ t. map (λ e. e && t) w.enable) off)
+      ∙ ap (set (bank_words size k ws) (number_of w.address))
+      (merged_off (word_at (bank_words size k ws) w.address) w.word w.enable)
       ∙ set_again (bank_words size k ws) (number_of w.address)
       ∙ sym (ap (λ t. if not t then bank_words size k ws else after_write (bank_words size k ws) w) off)
 ]
@@ -162,13 +170,16 @@ module _ (c size : ℕ) (m : Memory) (words : ℕ → Words) (writes writes' : �
       let place : t + suc d ≡ suc (t + d) = omega arith in
       ap (λ n. bank_words size k (words n)) place
       ∙ ap (bank_words size k) (goes_on (t + d) (omega arith))
-      ∙ all_other size m.size k ((t + d) % c) (writes (t + d)) (writes' (t + d)) (words (t + d)) (banked (t + d) (omega arith)) (apart d (omega arith))
+      ∙ all_other size m.size k ((t + d) % c) (writes (t + d)) (writes' (t + d)) (words (t + d))
+      (banked (t + d) (omega arith)) (apart d (omega arith))
       ∙ stays k d t (λ i low. apart i (omega arith)) (omega arith)
 
   turn_is : (n k i : ℕ) → k < c → i < c → (n * c + k + i) % c ≡ k → i ≡ 0
   turn_is n k i h low is = elim (cases_lt (k + i) c) [
-    | inl inside ↦ let at : (n * c + k + i) % c ≡ k + i = ap (λ m. m % c) (omega arith) ∙ mod-mul-add n c (k + i) inside in omega arith
-    | inr past ↦ let at : (n * c + k + i) % c ≡ k + i - c = ap (λ m. m % c) (omega arith) ∙ mod-mul-add (suc n) c (k + i - c) (omega arith) in omega arith
+    | inl inside ↦ let at : (n * c + k + i) % c ≡ k + i = ap (λ m. m % c) (omega arith)
+        ∙ mod-mul-add n c (k + i) inside in omega arith
+    | inr past ↦ let at : (n * c + k + i) % c ≡ k + i - c = ap (λ m. m % c) (omega arith)
+        ∙ mod-mul-add (suc n) c (k + i - c) (omega arith) in omega arith
   ]
 
   pub at_turn : (n k : ℕ) → k < c → n * c + k < clocks
@@ -177,11 +188,14 @@ module _ (c size : ℕ) (m : Memory) (words : ℕ → Words) (writes writes' : �
   at_turn zero k below h =
       let place : 0 * c + k ≡ 0 + k = omega arith in
       ap (λ m. bank_words size k (words m)) place
-      ∙ stays k k 0 (λ i low is. let here : (0 + i) % c ≡ i = ap (λ m. m % c) (omega arith) ∙ mod-mul-add 0 c i (omega arith) in absurd (omega arith)) (omega arith)
+      ∙ stays k k 0 (λ i low is. let here : (0 + i) % c ≡ i = ap (λ m. m % c) (omega arith)
+      ∙ mod-mul-add 0 c i (omega arith) in absurd (omega arith)) (omega arith)
   at_turn (suc n) k below h =
       let place : suc n * c + k ≡ suc (n * c + k) + (c - 1) = omega arith in
       ap (λ m. bank_words size k (words m)) place
-      ∙ stays k (c - 1) (suc (n * c + k)) (λ i low is. let first = turn_is n k (suc i) below (omega arith) (ap (λ m. m % c) (omega arith) ∙ is) in absurd (omega arith)) (omega arith)
+      ∙ stays k (c - 1) (suc (n * c + k))
+      (λ i low is. let first = turn_is n k (suc i) below (omega arith) (ap (λ m. m % c) (omega arith)
+      ∙ is) in absurd (omega arith)) (omega arith)
 
   -- a context's turn
   pub next_turn : (n k : ℕ) → k < c → n * c + k < clocks → words_alone c size words k (suc n)

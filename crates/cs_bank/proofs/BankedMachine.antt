@@ -1,8 +1,6 @@
 -- Every pin of a banked machine is fed, and no loop lacks a register.
-use Rattle.std.proofs.Common.{◌≡◌, ℕ, zero, suc, ◌+◌, ◌<◌, ◌≤◌, Bool, true, false, List, [], ◌∷◌, ◌++◌, length, map, refl, sym, ap, ap₂, subst, ◌∙◌, inl, inr, arith}
+use Rattle.std.proofs.Common.{◌≡◌, ℕ, zero, suc, ◌+◌, ◌<◌, ◌≤◌, false, List, [], ◌∷◌, length, map, refl, sym, ap, ◌∙◌, inl, inr, arith}
 use Rattle.std.specs.Prelude.{slice_get, option_map, Option, Some, None}
-use Rattle.std.specs.List.{range_with_len}
-use Rattle.std.proofs.lemmas.List.{length-map}
 use Rattle.std.proofs.lemmas.List.FromFn.{length-map-range_with_len}
 use Rattle.std.proofs.lemmas.Option.{none-some, same_Some, slice_get-map, slice_get_within}
 use Rattle.cs_graph.specs.declared.edge.Edge.{Edge}
@@ -14,11 +12,10 @@ use Rattle.cs_graph.specs.declared.source.Source.{Source}
 use Rattle.cs_graph.specs.declared.source.Source.TheVariants.{Driven, Tied as TiedTo}
 use Rattle.cs_graph.specs.declared.vertex.Feed.{Feed}
 use Rattle.cs_graph.specs.declared.vertex.Feed.TheVariants.{Edge as Along, Tied}
-use Rattle.cs_graph.specs.declared.vertex.Vertex.{Vertex}
 use Rattle.cs_graph.specs.declared.vertex.VertexKind.{VertexKind}
 use Rattle.cs_graph.specs.declared.vertex.VertexKind.TheVariants.{Constant, Gate, Host, Input, Output, Read, Write}
-use Rattle.cs_graph.specs.Draft.{AreFed, Draft, IsOpen, built}
-use Rattle.cs_graph.specs.Invariant.{HasOrder, IsMachine, kinds}
+use Rattle.cs_graph.specs.Draft.{AreFed, Draft, built}
+use Rattle.cs_graph.specs.Invariant.{HasOrder, IsMachine}
 use Rattle.cs_graph.specs.Kinds.{is_write_of, output_count}
 use Rattle.cs_net.specs.Contexts.{Image}
 use Rattle.cs_bank.specs.Bank.{IsWhole, banked, banked_pins, banked_vertex, first_guard, guard_place, new_vertices}
@@ -65,16 +62,20 @@ module _ (c : ℕ) (entries : List (Option (List Image))) (d : Draft) (ports : H
   pins_given v x found (Constant b) = old_given v x found
   pins_given v x found (Gate kind) = old_given v x found
   pins_given v x found (Read memory port) =
-      both_read 0 IsGiven x.pins (context_pins c n) (old_given v x found) (wires_read 0 IsGiven n wire_given n (context_bits c) (omega arith))
+      both_read 0 IsGiven x.pins (context_pins c n) (old_given v x found)
+      (wires_read 0 IsGiven n wire_given n (context_bits c) (omega arith))
   pins_given v x found (Write memory port) =
       let low = place_after first 0 d.memories d.vertices memory in
-      write_read 0 IsGiven n wire_given c (guard_place first d memory port) (slice_get d.memories memory) x.pins (omega (arith, low)) (old_given v x found)
+      write_read 0 IsGiven n wire_given c (guard_place first d memory port) (slice_get d.memories memory) x.pins
+      (omega (arith, low)) (old_given v x found)
 
-  bit_given : (e i : ℕ) (x : OpenVertex) → slice_get (context_vertices c n) e ≡ Some x → slice_get x.pins i ≡ Some None → ⊥
+  bit_given : (e i : ℕ) (x : OpenVertex) → slice_get (context_vertices c n) e ≡ Some x → slice_get x.pins i ≡ Some None
+      → ⊥
   bit_given e i x found at =
       let within = slice_get_within (context_vertices c n) e x found in
       let count = length-map-range_with_len (λ j. context_bit c (n + j) j) 0 (context_bits c) in
-      let is = same_Some (context_bit c (n + e) e) x (sym (get_context_bit c n e (omega (arith, within, count))) ∙ found) in
+      let is = same_Some (context_bit c (n + e) e) x (sym (get_context_bit c n e (omega (arith, within, count)))
+      ∙ found) in
       by i (ap (λ (z : OpenVertex). slice_get z.pins i) is ∙ at)
     where
       by : (i : ℕ) → slice_get (context_bit c (n + e) e).pins i ≡ Some None → ⊥
@@ -86,7 +87,8 @@ module _ (c : ℕ) (entries : List (Option (List Image))) (d : Draft) (ports : H
   unfolding IsGiven
   guard_given e i x found at =
       let back = back_guards first IsGiven first 0 d.memories d.vertices (omega arith) some (write_pins_are d ports)
-          (λ j p y on. let was = in_filter (λ (z : OpenVertex). is_write_of j z.kind) d.vertices p y on in old_given was.0 y was.1) in
+      (λ j p y on. let was = in_filter (λ (z : OpenVertex). is_write_of j z.kind) d.vertices p y on in old_given was.0 y
+      was.1) in
       elim (back e i x None found at) [
         | inl earlier ↦ none_given (sym earlier.is)
         | inr given ↦ given refl
@@ -121,15 +123,19 @@ record IsFedBy (g : Graph) (fs : List Feed) (i : ℕ) (k : Driver) : Type 0 wher
   found : slice_get g.edges e ≡ Some edge
   is : record { from = edge.from; output = edge.output; contents = edge.contents } ≡ k
 
-fed_by : (g : Graph) (fs : List Feed) (i : ℕ) (k : Driver) → slice_get (map (feed_source g.edges) fs) i ≡ Some (Some (Driven k))
+fed_by : (g : Graph) (fs : List Feed) (i : ℕ) (k : Driver)
+    → slice_get (map (feed_source g.edges) fs) i ≡ Some (Some (Driven k))
     → IsFedBy g fs i k
 unfolding source_number
 fed_by g [] i k at = absurd (none-some (Some (Driven k)) at)
 fed_by g (Tied b ∷ fs) zero k at =
-    let no : ◌≡◌ {A = ℕ} 1 2 = ap source_number (same_Some (Some (TiedTo b)) (Some (Driven k)) at) in absurd (omega (arith, no))
-fed_by g (Along e ∷ fs) zero k at = by (slice_get g.edges e) refl (same_Some (feed_source g.edges (Along e)) (Some (Driven k)) at)
+    let no : ◌≡◌ {A = ℕ} 1 2 = ap source_number (same_Some (Some (TiedTo b)) (Some (Driven k)) at) in absurd
+    (omega (arith, no))
+fed_by g (Along e ∷ fs) zero k at = by (slice_get g.edges e) refl
+    (same_Some (feed_source g.edges (Along e)) (Some (Driven k)) at)
   where
-    by : (o : Option Edge) → slice_get g.edges e ≡ o → edge_source (slice_get g.edges e) ≡ Some (Driven k) → IsFedBy g (Along e ∷ fs) 0 k
+    by : (o : Option Edge) → slice_get g.edges e ≡ o → edge_source (slice_get g.edges e) ≡ Some (Driven k)
+        → IsFedBy g (Along e ∷ fs) 0 k
     by None none same =
         let no : ◌≡◌ {A = ℕ} 1 2 = ap source_number (sym (ap edge_source none) ∙ same) in absurd (omega (arith, no))
     by (Some d) found same = record {
@@ -137,12 +143,21 @@ fed_by g (Along e ∷ fs) zero k at = by (slice_get g.edges e) refl (same_Some (
       edge = d;
       at = refl;
       found = found;
-      is = same_driver (record { from = d.from; output = d.output; contents = d.contents }) k (sym (ap edge_source found) ∙ same);
+      is = same_driver (record { from = d.from; output = d.output; contents = d.contents }) k
+          (sym (ap edge_source found) ∙ same);
     }
 fed_by g (f ∷ fs) (suc i) k at =
-    let rest = fed_by g fs i k at in record { e = rest.e; edge = rest.edge; at = rest.at; found = rest.found; is = rest.is }
+    let rest = fed_by g fs i k at in record {
+      e = rest.e;
+      edge = rest.edge;
+      at = rest.at;
+      found = rest.found;
+      is =
+          rest.is;
+    }
 
-no_outputs : (ms : List Memory) (kind : VertexKind) (output : ℕ) → output < output_count ms kind → is_writer kind ≡ false
+no_outputs : (ms : List Memory) (kind : VertexKind) (output : ℕ) → output < output_count ms kind
+    → is_writer kind ≡ false
 no_outputs ms Host output low = refl
 no_outputs ms Input output low = refl
 no_outputs ms Output output low = refl
@@ -176,8 +191,7 @@ module _ (g : Graph) (is : IsMachine g) where
       let has = is.outputs by.e by.edge by.found in
       let x = there g.vertices by.edge.from (is.well_formed.from by.e by.edge by.found) in
       let kind = same_Some has.kind x.0.kind (sym has.found ∙ get_kind g.vertices by.edge.from x.0 x.1) in
-      let from = ap (λ (d : Driver). d.from) by.is in
-      (
+      let from = ap (λ (d : Driver). d.from) by.is in (
         wired_vertex g.edges x.0,
         ap (slice_get (wired g).vertices) (sym from)
             ∙ slice_get-map (wired_vertex g.edges) g.vertices by.edge.from
@@ -203,7 +217,8 @@ module _ (g : Graph) (is : IsMachine g) where
       by (f ∷ fs) zero at = source_given f (same_Some (feed_source g.edges f) None at)
       by (f ∷ fs) (suc i) at = by fs i at
 
-  module _ (c : ℕ) (entries : List (Option (List Image))) (whole : (i : ℕ) (m : Memory) → slice_get g.memories i ≡ Some m → IsWhole m) where
+  module _ (c : ℕ) (entries : List (Option (List Image))) (whole : (i : ℕ) (m : Memory)
+      → slice_get g.memories i ≡ Some m → IsWhole m) where
     some_words : (i : ℕ) (m : Memory) → slice_get g.memories i ≡ Some m → 0 < m.size
     some_words i m at = (whole i m at).some
 
@@ -213,4 +228,5 @@ module _ (g : Graph) (is : IsMachine g) where
 
     -- and an order
     pub has_order : 0 < c → HasOrder (built (banked c entries (wired g)))
-    has_order several = order_built (banked c entries (wired g)) (banked_order c entries (wired g) wired_order (ports_of g is) several some_words wired_reads)
+    has_order several = order_built (banked c entries (wired g))
+        (banked_order c entries (wired g) wired_order (ports_of g is) several some_words wired_reads)

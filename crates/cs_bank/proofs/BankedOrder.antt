@@ -1,5 +1,5 @@
 -- An order of a banked draft's vertices, each after all that its pins read without a register.
-use Rattle.std.proofs.Common.{◌≡◌, ℕ, zero, suc, ◌+◌, ◌-◌, ◌*◌, ◌<◌, ◌≤◌, Bool, true, false, List, [], ◌∷◌, ◌++◌, length, map, take, drop, refl, sym, ap, ap₂, subst, ◌∙◌, inl, inr, arith}
+use Rattle.std.proofs.Common.{◌≡◌, ℕ, zero, suc, ◌+◌, ◌-◌, ◌<◌, ◌≤◌, Bool, true, false, List, [], ◌∷◌, length, map, refl, sym, ap, ◌∙◌, inl, inr, arith}
 use Rattle.std.specs.Prelude.{slice_get, option_map, nat_lt, Option, Some, None, if◌then◌else◌}
 use Rattle.std.specs.List.{range_with_len}
 use Rattle.std.proofs.lemmas.Bool.{cases_lt, le-ltb, lt-ltb}
@@ -7,7 +7,6 @@ use Rattle.std.proofs.lemmas.List.{length-map}
 use Rattle.std.proofs.lemmas.List.FromFn.{length-map-range_with_len}
 use Rattle.std.proofs.lemmas.Option.{none-some, same_Some, slice_get-map, slice_get_past, slice_get_within}
 use Rattle.cs_graph.specs.declared.edge.Edge.{Edge}
-use Rattle.cs_graph.specs.declared.graph.Graph.{Graph}
 use Rattle.cs_graph.specs.declared.memory.Memory.{Memory}
 use Rattle.cs_graph.specs.declared.source.Driver.{Driver}
 use Rattle.cs_graph.specs.declared.source.OpenVertex.{OpenVertex}
@@ -20,10 +19,10 @@ use Rattle.cs_graph.specs.Invariant.{HasOrder}
 use Rattle.cs_graph.specs.Kinds.{is_write_of}
 use Rattle.cs_graph.specs.Past.{context_of}
 use Rattle.cs_net.specs.Contexts.{Image}
-use Rattle.cs_bank.specs.Bank.{banked, banked_pins, banked_vertex, first_guard, guard_place, new_vertices, write_pins}
+use Rattle.cs_bank.specs.Bank.{banked, banked_pins, banked_vertex, first_guard, guard_place, new_vertices}
 use Rattle.cs_bank.specs.ContextBits.{context_bit, context_bits, context_pins, context_vertices, counter_contents, digit, wire}
-use Rattle.cs_bank.specs.Guards.{enable_pins, guards, guards_place, is_guarded, memory_tests, write_ports}
-use Rattle.cs_bank.proofs.BankedPins.{AllRead, back_guards, get_both, write_read}
+use Rattle.cs_bank.specs.Guards.{guards}
+use Rattle.cs_bank.proofs.BankedPins.{back_guards, get_both, write_read}
 use Rattle.cs_bank.proofs.BankedPlaces.{HasPorts, in_filter, write_pins_are}
 use Rattle.cs_bank.proofs.Counters.{get_context_bit, get_range}
 use Rattle.cs_bank.proofs.GuardLemmas.{place_after}
@@ -56,7 +55,8 @@ record FromPin (v : ℕ) (ss : List (Option Source)) (d : Edge) : Type 0 where
   from : d.from ≡ k.from
   weight : d.weight ≡ length k.contents
 
-from_pin : (v j : ℕ) (ss : List (Option Source)) (e : ℕ) (d : Edge) → slice_get (edges_into v j ss) e ≡ Some d → FromPin v ss d
+from_pin : (v j : ℕ) (ss : List (Option Source)) (e : ℕ) (d : Edge) → slice_get (edges_into v j ss) e ≡ Some d
+    → FromPin v ss d
 from_pin v j [] e d h = absurd (none-some d h)
 from_pin v j (s ∷ ss) e d h = elim (get_both (edge_into v j s) (edges_into v (j + 1) ss) e d h) [
   | inl here ↦ by s e here
@@ -69,7 +69,16 @@ from_pin v j (s ∷ ss) e d h = elim (get_both (edge_into v j s) (edges_into v (
     by None e h = absurd (none-some d h)
     by (Some (TiedTo b)) e h = absurd (none-some d h)
     by (Some (Driven k)) zero h =
-        let same = same_Some (record { from = k.from; output = k.output; to = v; pin = j; weight = length k.contents; contents = k.contents }) d h in
+        let same = same_Some
+        (record {
+          from = k.from;
+          output = k.output;
+          to = v;
+          pin = j;
+          weight = length k.contents;
+          contents =
+              k.contents;
+        }) d h in
         record {
           i = 0;
           k = k;
@@ -81,7 +90,8 @@ from_pin v j (s ∷ ss) e d h = elim (get_both (edge_into v j s) (edges_into v (
     by (Some (Driven k)) (suc e) h = absurd (none-some d h)
 
 order_from : (d : Draft) (order : HasDraftOrder d) (v : ℕ) (xs : List OpenVertex)
-    → ((w : ℕ) → slice_get xs w ≡ slice_get d.vertices (v + w)) → (e : ℕ) (y : Edge) → slice_get (edges_from v xs) e ≡ Some y
+    → ((w : ℕ) → slice_get xs w ≡ slice_get d.vertices (v + w)) → (e : ℕ) (y : Edge)
+    → slice_get (edges_from v xs) e ≡ Some y
     → y.weight ≡ 0 → order.place y.from < order.place y.to
 order_from d order v [] rows e y h none = absurd (none-some y h)
 order_from d order v (x ∷ xs) rows e y h none = elim (get_both (edges_into v 0 x.pins) (edges_from (v + 1) xs) e y h) [
@@ -89,12 +99,14 @@ order_from d order v (x ∷ xs) rows e y h none = elim (get_both (edges_into v 0
       let pin = from_pin v 0 x.pins e y here in
       let place : v + 0 ≡ v = omega arith in
       let weight = pin.weight in
-      let low = order.below v pin.i x pin.k (ap (slice_get d.vertices) (sym place) ∙ sym (rows 0)) pin.at (omega (arith, weight, none)) in
+      let low = order.below v pin.i x pin.k (ap (slice_get d.vertices) (sym place) ∙ sym (rows 0)) pin.at
+      (omega (arith, weight, none)) in
       let from = ap order.place pin.from in
       let to = ap order.place pin.to in
       omega (arith, low, from, to)
   | inr (e', is, right) ↦
-      order_from d order (v + 1) xs (λ w. let place : v + suc w ≡ (v + 1) + w = omega arith in rows (suc w) ∙ ap (slice_get d.vertices) place) e' y right none
+      order_from d order (v + 1) xs (λ w. let place : v + suc w ≡ (v + 1) + w = omega arith in rows (suc w)
+      ∙ ap (slice_get d.vertices) place) e' y right none
 ]
 
 pub order_built : (d : Draft) → HasDraftOrder d → HasOrder (built d)
@@ -102,7 +114,8 @@ order_built d order = record {
   place = order.place;
   span = order.span;
   within = order.within;
-  below = λ e y found none. order_from d order 0 d.vertices (λ w. let place : w ≡ 0 + w = omega arith in ap (slice_get d.vertices) place) e y found none;
+  below = λ e y found none. order_from d order 0 d.vertices
+      (λ w. let place : w ≡ 0 + w = omega arith in ap (slice_get d.vertices) place) e y found none;
 }
 
 -- ---- the banked draft
@@ -120,7 +133,8 @@ is_writer (Write memory port) = true
 abbrev pub IsRead : Draft → Driver → Type 0
 IsRead d k = (y : OpenVertex) × (slice_get d.vertices k.from ≡ Some y) × (is_writer y.kind ≡ false)
 
-module _ (c : ℕ) (entries : List (Option (List Image))) (d : Draft) (order : HasDraftOrder d) (ports : HasPorts d) (several : 0 < c)
+module _ (c : ℕ) (entries : List (Option (List Image))) (d : Draft) (order : HasDraftOrder d) (ports : HasPorts d)
+    (several : 0 < c)
     (some : (i : ℕ) (m : Memory) → slice_get d.memories i ≡ Some m → 0 < m.size)
     (read : (v i : ℕ) (x : OpenVertex) (k : Driver) → slice_get d.vertices v ≡ Some x
     → slice_get x.pins i ≡ Some (Some (Driven k)) → IsRead d k) where
@@ -198,13 +212,15 @@ module _ (c : ℕ) (entries : List (Option (List Image))) (d : Draft) (order : H
   SourceBefore s = (k : Driver) → s ≡ Some (Driven k) → IsBeforeWrites k
 
   -- what wires to vertices from a on read
-  wire_from : (a n i : ℕ) (k : Driver) → slice_get (map wire (range_with_len a n)) i ≡ Some (Some (Driven k)) → (k.from ≡ a + i) × (i < n)
+  wire_from : (a n i : ℕ) (k : Driver) → slice_get (map wire (range_with_len a n)) i ≡ Some (Some (Driven k))
+      → (k.from ≡ a + i) × (i < n)
   wire_from a n i k at =
       let within = slice_get_within (map wire (range_with_len a n)) i (Some (Driven k)) at in
       let count = length-map-range_with_len wire a n in
       let low : i < n = omega (arith, within, count) in
       let is = slice_get-map wire (range_with_len a n) i ∙ ap (option_map wire) (get_range a n i low) in
-      let same = ap (λ (e : Driver). e.from) (same_driver (record { from = a + i; output = 0; contents = [] }) k (same_Some (wire (a + i)) (Some (Driven k)) (sym is ∙ at))) in
+      let same = ap (λ (e : Driver). e.from) (same_driver (record { from = a + i; output = 0; contents = [] }) k
+      (same_Some (wire (a + i)) (Some (Driven k)) (sym is ∙ at))) in
       (sym same, low)
 
   wire_before : (u : ℕ) → length d.vertices ≤ u → SourceBefore (wire u)
@@ -232,16 +248,18 @@ module _ (c : ℕ) (entries : List (Option (List Image))) (d : Draft) (order : H
     pins_below Output i k at none = old_pin i k at none
     pins_below (Constant b) i k at none = old_pin i k at none
     pins_below (Gate kind) i k at none = old_pin i k at none
-    pins_below (Read memory port) i k at none = elim (get_both x.pins (context_pins c (length d.vertices)) i (Some (Driven k)) at) [
-      | inl here ↦ old_pin i k here none
-      | inr (j, is, here) ↦
-          let from = wire_from (length d.vertices) (context_bits c) j k here in
-          let same = place_of_new k.from (omega (arith, from.0)) ∙ new_bit k.from (omega (arith, from.0, from.1)) in
-          omega (arith, same)
-    ]
+    pins_below (Read memory port) i k at none = elim
+        (get_both x.pins (context_pins c (length d.vertices)) i (Some (Driven k)) at) [
+          | inl here ↦ old_pin i k here none
+          | inr (j, is, here) ↦
+              let from = wire_from (length d.vertices) (context_bits c) j k here in
+              let same = place_of_new k.from (omega (arith, from.0)) ∙ new_bit k.from (omega (arith, from.0, from.1)) in
+              omega (arith, same)
+        ]
     pins_below (Write memory port) i k at none =
         let low = place_after first 0 d.memories d.vertices memory in
-        write_read 0 SourceBefore (length d.vertices) wire_before c (guard_place first d memory port) (slice_get d.memories memory) x.pins (omega (arith, low))
+        write_read 0 SourceBefore (length d.vertices) wire_before c (guard_place first d memory port)
+        (slice_get d.memories memory) x.pins (omega (arith, low))
         (λ j s on e is. read_before e (read v j x e found (on ∙ ap Some is))) i (Some (Driven k)) at k refl
 
     old_place : place_of v ≡ (if is_writer x.kind then top else suc (order.place v))
@@ -256,13 +274,17 @@ module _ (c : ℕ) (entries : List (Option (List Image))) (d : Draft) (order : H
       let n = length d.vertices in
       let within = slice_get_within (context_vertices c n) e x found in
       let count = length-map-range_with_len (λ j. context_bit c (n + j) j) 0 (context_bits c) in
-      let is = same_Some (context_bit c (n + e) e) x (sym (get_context_bit c n e (omega (arith, within, count))) ∙ found) in
+      let is = same_Some (context_bit c (n + e) e) x (sym (get_context_bit c n e (omega (arith, within, count)))
+      ∙ found) in
       by i (ap (λ (z : OpenVertex). slice_get z.pins i) is ∙ at)
     where
       by : (i : ℕ) → slice_get (context_bit c (length d.vertices + e) e).pins i ≡ Some (Some (Driven k)) → ⊥
       by zero at =
-          let source : Source = Driven (record { from = length d.vertices + e; output = 0; contents = counter_contents c e }) in
-          let same = ap (λ (z : Driver). length z.contents) (same_driver (record { from = length d.vertices + e; output = 0; contents = counter_contents c e }) k (same_Some (Some source) (Some (Driven k)) at)) in
+          let source : Source = Driven
+          (record { from = length d.vertices + e; output = 0; contents = counter_contents c e }) in
+          let same = ap (λ (z : Driver). length z.contents)
+          (same_driver (record { from = length d.vertices + e; output = 0; contents = counter_contents c e }) k
+          (same_Some (Some source) (Some (Driven k)) at)) in
           let long = length-map-range_with_len (λ j. digit e (context_of c j)) 0 c in
           absurd (omega (arith, same, long, none, several))
       by (suc i) at = absurd (none-some (Some (Driven k)) at)
@@ -271,14 +293,18 @@ module _ (c : ℕ) (entries : List (Option (List Image))) (d : Draft) (order : H
       → slice_get x.pins i ≡ Some (Some (Driven k)) → first + e < total → place_of k.from < place_of (first + e)
   guard_below e i x k found at inside =
       let here = place_of_new (first + e) (omega arith) ∙ new_guard (first + e) (omega arith) inside in
-      let back = back_guards first (λ s. (e : Driver) → s ≡ Some (Driven e) → IsRead d e) first 0 d.memories d.vertices (omega arith) some (write_pins_are d ports)
-          (λ j p y on i s at e is. let was = in_filter (λ (z : OpenVertex). is_write_of j z.kind) d.vertices p y on in read was.0 i y e was.1 (at ∙ ap Some is)) in
+      let back = back_guards first (λ s. (e : Driver) → s ≡ Some (Driven e) → IsRead d e) first 0 d.memories d.vertices
+      (omega arith) some (write_pins_are d ports)
+      (λ j p y on i s at e is. let was = in_filter (λ (z : OpenVertex). is_write_of j z.kind) d.vertices p y on in read
+      was.0 i y e was.1 (at ∙ ap Some is)) in
       elim (back e i x (Some (Driven k)) found at) [
         | inl earlier ↦
-            let from = ap (λ (y : Driver). y.from) (same_driver k (record { from = earlier.u; output = 0; contents = [] }) earlier.is) in
+            let from = ap (λ (y : Driver). y.from)
+            (same_driver k (record { from = earlier.u; output = 0; contents = [] }) earlier.is) in
             let low = earlier.low in
             let high = earlier.high in
-            let there = place_of_new k.from (omega (arith, low, from)) ∙ new_guard k.from (omega (arith, low, from)) (omega (arith, high, inside, from)) in
+            let there = place_of_new k.from (omega (arith, low, from))
+            ∙ new_guard k.from (omega (arith, low, from)) (omega (arith, high, inside, from)) in
             omega (arith, here, there, low, high, from)
         | inr read ↦
             let is = read k refl in
@@ -297,17 +323,19 @@ module _ (c : ℕ) (entries : List (Option (List Image))) (d : Draft) (order : H
       elim (get_both (map mine d.vertices) (new_vertices c d) v x found) [
         | inl old ↦
             let was = was_in mine d.vertices v x old in
-            let low = pins_below v was.0 was.1 was.0.kind i k (ap (λ (z : OpenVertex). slice_get z.pins i) was.2 ∙ at) none in
+            let low = pins_below v was.0 was.1 was.0.kind i k (ap (λ (z : OpenVertex). slice_get z.pins i) was.2
+            ∙ at) none in
             let here = old_place v was.0 was.1 in
             omega (arith, low, here)
-        | inr (e, is, new) ↦ elim (get_both (context_vertices c (length d.vertices)) (guards first 0 d.memories d.vertices) e x new) [
-          | inl bit ↦ absurd (bit_below e i x k bit at none)
-          | inr (e', is', guard) ↦
-              let place : v ≡ first + e' = omega (arith, is, is', count, bits) in
-              let low = guard_below e' i x k guard at (omega (arith, place, within)) in
-              let here = ap place_of place in
-              omega (arith, low, here)
-        ]
+        | inr (e, is, new) ↦ elim
+            (get_both (context_vertices c (length d.vertices)) (guards first 0 d.memories d.vertices) e x new) [
+              | inl bit ↦ absurd (bit_below e i x k bit at none)
+              | inr (e', is', guard) ↦
+                  let place : v ≡ first + e' = omega (arith, is, is', count, bits) in
+                  let low = guard_below e' i x k guard at (omega (arith, place, within)) in
+                  let here = ap place_of place in
+                  omega (arith, low, here)
+            ]
       ]
 
   pub banked_order : HasDraftOrder (banked c entries d)

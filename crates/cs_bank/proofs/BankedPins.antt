@@ -1,20 +1,16 @@
 -- What the pins of a banked draft read: guards read earlier guards and what Writes read.
-use Rattle.std.proofs.Common.{◌≡◌, ◌⊎◌, ℕ, zero, suc, ◌+◌, ◌-◌, ◌*◌, ◌^◌, ◌<◌, ◌≤◌, Bool, true, false, List, [], ◌∷◌, ◌++◌, length, map, take, drop, refl, sym, ap, ap₂, subst, ◌∙◌, inl, inr, arith, length-append}
-use Rattle.std.specs.Prelude.{slice_get, nat_lt, Option, Some, None, if◌then◌else◌}
+use Rattle.std.proofs.Common.{◌≡◌, ◌⊎◌, ℕ, zero, suc, ◌+◌, ◌-◌, ◌^◌, ◌<◌, ◌≤◌, Bool, true, false, List, [], ◌∷◌, ◌++◌, length, map, take, drop, refl, sym, ap, subst, ◌∙◌, inl, inr, arith}
+use Rattle.std.specs.Prelude.{slice_get, Option, Some, None, if◌then◌else◌}
 use Rattle.std.specs.List.{range_with_len}
 use Rattle.std.proofs.lemmas.Bool.{cases_lt, lt-ltb, le-ltb}
-use Rattle.std.proofs.lemmas.List.{length-map}
-use Rattle.std.proofs.lemmas.Option.{none-some, same_Some, slice_get_within}
-use Rattle.cs_cells.specs.declared.gate.Kind.{Kind}
+use Rattle.std.proofs.lemmas.Option.{none-some, same_Some}
 use Rattle.cs_cells.specs.declared.gate.Kind.TheVariants.{And, AndNot, Not, OrNot}
 use Rattle.cs_graph.specs.declared.memory.Memory.{Memory}
-use Rattle.cs_graph.specs.declared.source.Driver.{Driver}
 use Rattle.cs_graph.specs.declared.source.OpenVertex.{OpenVertex}
 use Rattle.cs_graph.specs.declared.source.Source.{Source}
-use Rattle.cs_graph.specs.declared.source.Source.TheVariants.{Driven}
 use Rattle.cs_bank.specs.Bank.{write_pins}
 use Rattle.cs_bank.specs.ContextBits.{context_bits, context_pins, digits, gate, wire}
-use Rattle.cs_bank.specs.Guards.{below_size, comparison, enable_pins, guard, guard_count, guard_gates, guarded_enables, guards, is_guarded, memory_tests, port_guard_count, port_guards, test_count, write_ports}
+use Rattle.cs_bank.specs.Guards.{below_size, comparison, enable_pins, guard, guard_count, guard_gates, guarded_enables, guards, is_guarded, memory_tests, port_guard_count, port_guards, write_ports}
 use Rattle.cs_bank.proofs.GuardLemmas.{AreWritePins, HaveWritePins, address_count, length-guard, length-port_guards}
 use Rattle.cs_bank.proofs.SizeTests.{length-below_size, length-digits, number_of-digits, some_tests}
 
@@ -28,6 +24,7 @@ get_both (z ∷ xs) ys (suc i) x h = elim (get_both xs ys i x h) [
   | inl left ↦ inl left
   | inr (k, is, right) ↦ inr (k, omega (arith, is), right)
 ]
+
 module _ (first : ℕ) (P : Option Source → Type 0) where
   -- pins that read what P says
   abbrev pub AllRead : List (Option Source) → Type 0
@@ -46,10 +43,12 @@ module _ (first : ℕ) (P : Option Source → Type 0) where
       → slice_get x.pins i ≡ Some s → IsBack (v + j) s ⊎ P s
 
   back_later : (v v' : ℕ) (s : Option Source) → v ≤ v' → IsBack v s ⊎ P s → IsBack v' s ⊎ P s
-  back_later v v' s more (inl back) = inl (record { u = back.u; is = back.is; low = back.low; high = let high = back.high in omega (arith, high, more) })
+  back_later v v' s more (inl back) = inl
+      (record { u = back.u; is = back.is; low = back.low; high = let high = back.high in omega (arith, high, more) })
   back_later v v' s more (inr said) = inr said
 
-  back_append : (v n : ℕ) (xs ys : List OpenVertex) → length xs ≡ n → ReadBack v xs → ReadBack (v + n) ys → ReadBack v (xs ++ ys)
+  back_append : (v n : ℕ) (xs ys : List OpenVertex) → length xs ≡ n → ReadBack v xs → ReadBack (v + n) ys
+      → ReadBack v (xs ++ ys)
   back_append v n xs ys long left right j i x s found at = elim (get_both xs ys j x found) [
     | inl here ↦ left j i x s here at
     | inr (j', is, here) ↦ back_later ((v + n) + j') (v + j) s (omega (arith, is, long)) (right j' i x s here at)
@@ -59,7 +58,8 @@ module _ (first : ℕ) (P : Option Source → Type 0) where
       → ((i : ℕ) (s : Option Source) → slice_get x.pins i ≡ Some s → IsBack v s ⊎ P s)
       → ReadBack (v + 1) xs → ReadBack v (x ∷ xs)
   back_first v x xs here rest zero i y s found at =
-      back_later v (v + 0) s (omega arith) (here i s (ap (λ (z : OpenVertex). slice_get z.pins i) (same_Some x y found) ∙ at))
+      back_later v (v + 0) s (omega arith) (here i s (ap (λ (z : OpenVertex). slice_get z.pins i) (same_Some x y found)
+      ∙ at))
   back_first v x xs here rest (suc j) i y s found at =
       back_later ((v + 1) + j) (v + suc j) s (omega arith) (rest j i y s found at)
 
@@ -133,7 +133,8 @@ module _ (first : ℕ) (P : Option Source → Type 0) where
       let long = length-below_size v address ds (address_count m pins are ∙ sym (length-digits m.abits m.size)) in
       back_append v (memory_tests m) (below_size v address ds) (guarded_enables (v + memory_tests m - 1) enables) long
       (back_test v address ds low (part_read m.abits pins own))
-      (back_enables (v + memory_tests m - 1) (v + memory_tests m) enables (omega (arith, low, tests)) (omega (arith, tests))
+      (back_enables (v + memory_tests m - 1) (v + memory_tests m) enables (omega (arith, low, tests))
+      (omega (arith, tests))
       (rest_read m.width (drop m.abits pins) (rest_read m.abits pins own)))
 
   back_guard : (v : ℕ) (m : Memory) (pins : List (Option Source)) → first ≤ v → 0 < m.size → AreWritePins m pins
@@ -152,7 +153,8 @@ module _ (first : ℕ) (P : Option Source → Type 0) where
       → ((p : ℕ) (x : OpenVertex) → slice_get xs p ≡ Some x → AllRead x.pins) → ReadBack v (port_guards v m xs)
   back_ports v m [] low some are own = λ j i x s found at. absurd (none-some x found)
   back_ports v m (y ∷ xs) low some are own =
-      back_append v (guard_count m) (guard v m y.pins) (port_guards (v + guard_count m) m xs) (length-guard v m y.pins (are 0 y refl))
+      back_append v (guard_count m) (guard v m y.pins) (port_guards (v + guard_count m) m xs)
+      (length-guard v m y.pins (are 0 y refl))
       (back_guard v m y.pins low some (are 0 y refl) (own 0 y refl))
       (back_ports (v + guard_count m) m xs (omega (arith, low)) some (λ p. are (suc p)) (λ p. own (suc p)))
 
@@ -164,13 +166,16 @@ module _ (first : ℕ) (P : Option Source → Type 0) where
   back_guards v i [] vertices low some have own = λ j p x s found at. absurd (none-some x found)
   back_guards v i (m ∷ ms) vertices low some have own =
       let here : i + 0 ≡ i = omega arith in
-      let are = λ (p : ℕ) (x : OpenVertex) (at : slice_get (write_ports i vertices) p ≡ Some x). have 0 p m x refl (ap (λ j. slice_get (write_ports j vertices) p) here ∙ at) in
+      let are = λ (p : ℕ) (x : OpenVertex) (at : slice_get (write_ports i vertices) p ≡ Some x). have 0 p m x refl
+      (ap (λ j. slice_get (write_ports j vertices) p) here ∙ at) in
       back_append v (port_guard_count i m vertices) (port_guards v m (write_ports i vertices))
       (guards (v + port_guard_count i m vertices) (i + 1) ms vertices)
       (length-port_guards v m (write_ports i vertices) are)
       (back_ports v m (write_ports i vertices) low (some 0 m refl) are (own i))
       (back_guards (v + port_guard_count i m vertices) (i + 1) ms vertices (omega (arith, low)) (λ k. some (suc k))
-      (λ j p o x at on. have (suc j) p o x at (ap (λ a. slice_get (write_ports a vertices) p) (let more : i + suc j ≡ (i + 1) + j = omega arith in more) ∙ on))
+      (λ j p o x at on. have (suc j) p o x at
+      (ap (λ a. slice_get (write_ports a vertices) p) (let more : i + suc j ≡ (i + 1) + j = omega arith in more)
+      ∙ on))
       own)
 
   -- ---- pins of a Write

@@ -55,12 +55,14 @@ write_kind i (Gate kind) is = absurd (no_such is)
 write_kind i (Read memory port) is = absurd (no_such is)
 write_kind i (Write memory port) is = (port, ap (λ n. Write n port) (same_number memory i is))
 
-pub in_filter : (p : OpenVertex → Bool) (xs : List OpenVertex) (j : ℕ) (x : OpenVertex) → slice_get (filter p xs) j ≡ Some x
+pub in_filter : (p : OpenVertex → Bool) (xs : List OpenVertex) (j : ℕ) (x : OpenVertex)
+    → slice_get (filter p xs) j ≡ Some x
     → (v : ℕ) × (slice_get xs v ≡ Some x) × (p x ≡ true)
 in_filter p [] j x found = absurd (none-some x found)
 in_filter p (y ∷ xs) j x found = by (in_filter p xs) (p y) refl j found
   where
-    by : ((i : ℕ) (z : OpenVertex) → slice_get (filter p xs) i ≡ Some z → (v : ℕ) × (slice_get xs v ≡ Some z) × (p z ≡ true))
+    by : ((i : ℕ) (z : OpenVertex) → slice_get (filter p xs) i ≡ Some z
+        → (v : ℕ) × (slice_get xs v ≡ Some z) × (p z ≡ true))
         → (b : Bool) → p y ≡ b → (i : ℕ) → slice_get (if p y then y ∷ filter p xs else filter p xs) i ≡ Some x
         → (v : ℕ) × (slice_get (y ∷ xs) v ≡ Some x) × (p x ≡ true)
     by rest true on zero at =
@@ -89,11 +91,14 @@ module _ (c : ℕ) (entries : List (Option (List Image))) (d : Draft) where
   abbrev pub banked_of : OpenVertex → OpenVertex
   banked_of x = banked_vertex (context_pins c (length d.vertices)) (first_guard c d) d x
 
-  pub old_vertex : (v : ℕ) → v < length d.vertices → slice_get (banked c entries d).vertices v ≡ option_map banked_of (slice_get d.vertices v)
+  pub old_vertex : (v : ℕ) → v < length d.vertices → slice_get (banked c entries d).vertices v ≡ option_map banked_of
+      (slice_get d.vertices v)
   old_vertex v low =
       let mine = banked_vertex (context_pins c (length d.vertices)) (first_guard c d) d in
       let count = length-map d.vertices mine in
-      get_first (map mine d.vertices) (context_vertices c (length d.vertices) ++ guards (first_guard c d) 0 d.memories d.vertices) v (omega (arith, count, low))
+      get_first (map mine d.vertices)
+      (context_vertices c (length d.vertices) ++ guards (first_guard c d) 0 d.memories d.vertices) v
+      (omega (arith, count, low))
       ∙ slice_get-map mine d.vertices v
 
   -- the context bits
@@ -103,14 +108,18 @@ module _ (c : ℕ) (entries : List (Option (List Image))) (d : Draft) where
       let mine = banked_vertex (context_pins c (length d.vertices)) (first_guard c d) d in
       let count = length-map d.vertices mine in
       let bits = length-map-range_with_len (λ i. context_bit c (length d.vertices + i) i) 0 (context_bits c) in
-      get_after (map mine d.vertices) (context_vertices c (length d.vertices) ++ guards (first_guard c d) 0 d.memories d.vertices) (length d.vertices + j) j (omega (arith, count))
-      ∙ get_first (context_vertices c (length d.vertices)) (guards (first_guard c d) 0 d.memories d.vertices) j (omega (arith, bits, low))
+      get_after (map mine d.vertices)
+      (context_vertices c (length d.vertices) ++ guards (first_guard c d) 0 d.memories d.vertices)
+      (length d.vertices + j) j (omega (arith, count))
+      ∙ get_first (context_vertices c (length d.vertices)) (guards (first_guard c d) 0 d.memories d.vertices) j
+      (omega (arith, bits, low))
       ∙ get_context_bit c (length d.vertices) j low
 
   -- the guard of a Write
   pub guard_stands : HasPorts d → (u i p : ℕ) (x : OpenVertex) (m : Memory) → slice_get d.vertices u ≡ Some x
       → x.kind ≡ Write i p → slice_get d.memories i ≡ Some m
-      → StandAt (banked c entries d) (guard_place (first_guard c d) d i p) (guard (guard_place (first_guard c d) d i p) m x.pins)
+      → StandAt (banked c entries d) (guard_place (first_guard c d) d i p)
+      (guard (guard_place (first_guard c d) d i p) m x.pins)
   guard_stands ports u i p x m found kind at j low =
       let f = first_guard c d in
       let mine = banked_vertex (context_pins c (length d.vertices)) f d in
@@ -135,15 +144,19 @@ module _ (c : ℕ) (entries : List (Option (List Image))) (d : Draft) where
       let index : guard_place f d i p + j ≡ length d.vertices + (context_bits c + off) = omega (arith, here, first) in
       let low' : j < guard_count m = omega (arith, low, long) in
       let inside : t < port_guard_count (0 + i) m d.vertices = omega (arith, most, low') in
-      get_after (map mine d.vertices) (context_vertices c (length d.vertices) ++ guards f 0 d.memories d.vertices) (guard_place f d i p + j) (context_bits c + off) (omega (arith, count, index))
-      ∙ get_after (context_vertices c (length d.vertices)) (guards f 0 d.memories d.vertices) (context_bits c + off) off (omega (arith, bits))
+      get_after (map mine d.vertices) (context_vertices c (length d.vertices) ++ guards f 0 d.memories d.vertices)
+      (guard_place f d i p + j) (context_bits c + off) (omega (arith, count, index))
+      ∙ get_after (context_vertices c (length d.vertices)) (guards f 0 d.memories d.vertices) (context_bits c + off) off
+      (omega (arith, bits))
       ∙ get_guard f 0 d.memories d.vertices i t off m (write_pins_are d ports) at inside sum
-      ∙ get_port_guard place m (write_ports (0 + i) d.vertices) p j x (λ k y on. write_pins_are d ports i k m y at on) ports_at low'
+      ∙ get_port_guard place m (write_ports (0 + i) d.vertices) p j x (λ k y on. write_pins_are d ports i k m y at on)
+      ports_at low'
       ∙ ap (λ v. slice_get (guard v m x.pins) j) (sym here)
 
 -- ---- what is made of each vertex, where gates make none
 
-module _ {A : Type 0} (f : OpenVertex → List A) (none : (kind : Kind) (pins : List (Option Source)) → f (gate kind pins) ≡ []) where
+module _ {A : Type 0} (f : OpenVertex → List A) (none : (kind : Kind) (pins : List (Option Source))
+    → f (gate kind pins) ≡ []) where
   none_of_map : {B : Type 0} (g : B → OpenVertex) (xs : List B) → ((x : B) → f (g x) ≡ []) → flat_map f (map g xs) ≡ []
   none_of_map g [] each = refl
   none_of_map g (x ∷ xs) each = ap₂ (λ y z. y ++ z) (each x) (none_of_map g xs each)
@@ -151,11 +164,14 @@ module _ {A : Type 0} (f : OpenVertex → List A) (none : (kind : Kind) (pins : 
   none_of_two : (xs ys : List OpenVertex) → flat_map f xs ≡ [] → flat_map f ys ≡ [] → flat_map f (xs ++ ys) ≡ []
   none_of_two xs ys left right = flat_map-append f xs ys ∙ ap₂ (λ y z. y ++ z) left right
 
-  none_of_comparison : (v : ℕ) (address : List (Option Source)) (ds : List Bool) → flat_map f (comparison v address ds) ≡ []
+  none_of_comparison : (v : ℕ) (address : List (Option Source)) (ds : List Bool)
+      → flat_map f (comparison v address ds) ≡ []
   none_of_comparison v [] ds = refl
   none_of_comparison v (a ∷ address) [] = refl
-  none_of_comparison v (a ∷ address) (true ∷ ds) = ap₂ (λ y z. y ++ z) (none OrNot (wire v ∷ a ∷ [])) (none_of_comparison (v + 1) address ds)
-  none_of_comparison v (a ∷ address) (false ∷ ds) = ap₂ (λ y z. y ++ z) (none AndNot (wire v ∷ a ∷ [])) (none_of_comparison (v + 1) address ds)
+  none_of_comparison v (a ∷ address) (true ∷ ds) = ap₂ (λ y z. y ++ z) (none OrNot (wire v ∷ a ∷ []))
+      (none_of_comparison (v + 1) address ds)
+  none_of_comparison v (a ∷ address) (false ∷ ds) = ap₂ (λ y z. y ++ z) (none AndNot (wire v ∷ a ∷ []))
+      (none_of_comparison (v + 1) address ds)
 
   none_of_test : (v : ℕ) (address : List (Option Source)) (ds : List Bool) → flat_map f (below_size v address ds) ≡ []
   none_of_test v [] ds = refl
@@ -166,24 +182,30 @@ module _ {A : Type 0} (f : OpenVertex → List A) (none : (kind : Kind) (pins : 
   none_of_gates : (v : ℕ) (m : Memory) (pins : List (Option Source)) → flat_map f (guard_gates v m pins) ≡ []
   none_of_gates v m pins =
       let last = v + memory_tests m - 1 in
-      none_of_two (below_size v (take m.abits pins) (digits m.abits m.size)) (guarded_enables last (drop m.width (drop m.abits pins)))
+      none_of_two (below_size v (take m.abits pins) (digits m.abits m.size))
+      (guarded_enables last (drop m.width (drop m.abits pins)))
       (none_of_test v (take m.abits pins) (digits m.abits m.size))
-      (none_of_map (λ e. gate And (e ∷ wire last ∷ [])) (drop m.width (drop m.abits pins)) (λ e. none And (e ∷ wire last ∷ [])))
+      (none_of_map (λ e. gate And (e ∷ wire last ∷ [])) (drop m.width (drop m.abits pins))
+      (λ e. none And (e ∷ wire last ∷ [])))
 
-  none_of_guard : (v : ℕ) (m : Memory) (pins : List (Option Source)) (b : Bool) → flat_map f (if b then guard_gates v m pins else []) ≡ []
+  none_of_guard : (v : ℕ) (m : Memory) (pins : List (Option Source)) (b : Bool)
+      → flat_map f (if b then guard_gates v m pins else []) ≡ []
   none_of_guard v m pins true = none_of_gates v m pins
   none_of_guard v m pins false = refl
 
   none_of_ports : (v : ℕ) (m : Memory) (xs : List OpenVertex) → flat_map f (port_guards v m xs) ≡ []
   none_of_ports v m [] = refl
   none_of_ports v m (x ∷ xs) =
-      none_of_two (guard v m x.pins) (port_guards (v + guard_count m) m xs) (none_of_guard v m x.pins (is_guarded m)) (none_of_ports (v + guard_count m) m xs)
+      none_of_two (guard v m x.pins) (port_guards (v + guard_count m) m xs) (none_of_guard v m x.pins (is_guarded m))
+      (none_of_ports (v + guard_count m) m xs)
 
   none_of_guards : (v i : ℕ) (ms : List Memory) (vertices : List OpenVertex) → flat_map f (guards v i ms vertices) ≡ []
   none_of_guards v i [] vertices = refl
   none_of_guards v i (m ∷ ms) vertices =
-      none_of_two (port_guards v m (write_ports i vertices)) (guards (v + port_guard_count i m vertices) (i + 1) ms vertices)
-      (none_of_ports v m (write_ports i vertices)) (none_of_guards (v + port_guard_count i m vertices) (i + 1) ms vertices)
+      none_of_two (port_guards v m (write_ports i vertices))
+      (guards (v + port_guard_count i m vertices) (i + 1) ms vertices)
+      (none_of_ports v m (write_ports i vertices))
+      (none_of_guards (v + port_guard_count i m vertices) (i + 1) ms vertices)
 
   none_of_bits : (c n : ℕ) → flat_map f (context_vertices c n) ≡ []
   none_of_bits c n =

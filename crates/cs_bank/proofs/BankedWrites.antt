@@ -73,12 +73,14 @@ write_banked m c q entry seen enables long small are =
 
 -- ---- lists of writes
 
-all_append : (size limit q : ℕ) (xs xs' ys ys' : List Write) → AllBanked size limit q xs xs' → AllBanked size limit q ys ys'
+all_append : (size limit q : ℕ) (xs xs' ys ys' : List Write) → AllBanked size limit q xs xs'
+    → AllBanked size limit q ys ys'
     → AllBanked size limit q (xs ++ ys) (xs' ++ ys')
 all_append size limit q [] [] ys ys' none h = h
 all_append size limit q [] (w' ∷ rest') ys ys' x h = elim x [ ]
 all_append size limit q (w ∷ rest) [] ys ys' x h = elim x [ ]
-all_append size limit q (w ∷ rest) (w' ∷ rest') ys ys' (more b bs) h = more b (all_append size limit q rest rest' ys ys' bs h)
+all_append size limit q (w ∷ rest) (w' ∷ rest') ys ys' (more b bs) h = more b
+    (all_append size limit q rest rest' ys ys' bs h)
 
 one_write : (size limit q : ℕ) (t : Bool) (x x' : Write) → (t ≡ true → Banked size limit q x x')
     → AllBanked size limit q (if t then (x ∷ []) else []) (if t then (x' ∷ []) else [])
@@ -96,7 +98,8 @@ all_flat size limit q f f' (x ∷ xs) h =
 -- ---- those of a banked graph
 
 module _ (bounded : Bool) (c : ℕ) (entries : List (Option (List Image))) (d : Draft) (clocks : ℕ) (row : ℕ
-    → Row) (value : ℕ → Outs) (words : ℕ → ℕ → Words) (run : DraftRuns bounded (banked c entries d) clocks row value words)
+    → Row) (value : ℕ → Outs) (words : ℕ → ℕ → Words)
+    (run : DraftRuns bounded (banked c entries d) clocks row value words)
     (ports : HasPorts d) (t : ℕ) (h : t < clocks) (q : ℕ) (small : q < 2 ^ context_bits c)
     (context_is : map (sees value t) (context_pins c (length d.vertices)) ≡ digits (context_bits c) q)
     (i : ℕ) (m : Memory) (entry : Option (List Image)) (at : slice_get d.memories i ≡ Some m) (some : 0 < m.size) where
@@ -107,10 +110,12 @@ module _ (bounded : Bool) (c : ℕ) (entries : List (Option (List Image))) (d : 
   context = context_pins c (length d.vertices)
 
   -- what the pins of a Write see
-  write_sees : (v p : ℕ) (x : OpenVertex) → slice_get d.vertices v ≡ Some x → x.kind ≡ WritePort i p → AreWritePins m x.pins
+  write_sees : (v p : ℕ) (x : OpenVertex) → slice_get d.vertices v ≡ Some x → x.kind ≡ WritePort i p
+      → AreWritePins m x.pins
       → map see (write_pins context (guard_place (first_guard c d) d i p) (Some m) x.pins)
       ≡ seen_pins m (map see x.pins) (digits (context_bits c) q)
-      (map (λ e. e && nat_lt (number_of (take m.abits (map see x.pins))) m.size) (drop m.width (drop m.abits (map see x.pins))))
+      (map (λ e. e && nat_lt (number_of (take m.abits (map see x.pins))) m.size)
+      (drop m.width (drop m.abits (map see x.pins))))
   unfolding see
   write_sees v p x found kind are =
       let place = guard_place (first_guard c d) d i p in
@@ -142,14 +147,16 @@ module _ (bounded : Bool) (c : ℕ) (entries : List (Option (List Image))) (d : 
   vertex_writes v x found (WritePort memory p) kind =
       let place = guard_place (first_guard c d) d memory p in
       one_write (2 ^ m.abits) m.size q (memory == i) (write_of m (map see x.pins))
-      (write_of (banked_memory c m entry) (map see (write_pins context place (slice_get d.memories memory) x.pins))) (λ same.
+      (write_of (banked_memory c m entry) (map see (write_pins context place (slice_get d.memories memory) x.pins)))
+      (λ same.
       let here : memory ≡ i = grind (arith, nat_tests) in
       let own = ports.writes v memory p x found kind in
       let is = same_Some own.0 m (sym own.1 ∙ ap (slice_get d.memories) here ∙ at) in
       let are = subst (λ n. AreWritePins n x.pins) is own.2 in
       let seen = map see x.pins in
       let enables = map (λ e. e && nat_lt (number_of (take m.abits seen)) m.size) (drop m.width (drop m.abits seen)) in
-      let all = ap (λ j. map see (write_pins context (guard_place (first_guard c d) d j p) (slice_get d.memories j) x.pins)) here
+      let all = ap
+      (λ j. map see (write_pins context (guard_place (first_guard c d) d j p) (slice_get d.memories j) x.pins)) here
       ∙ ap (λ o. map see (write_pins context (guard_place (first_guard c d) d i p) o x.pins)) at
       ∙ write_sees v p x found (kind ∙ ap (λ j. WritePort j p) here) are in
       subst (λ s. Banked (2 ^ m.abits) m.size q (write_of m seen) (write_of (banked_memory c m entry) s)) (sym all)
@@ -160,7 +167,9 @@ module _ (bounded : Bool) (c : ℕ) (entries : List (Option (List Image))) (d : 
       (open_writes (banked c entries d) i (banked_memory c m entry) (sees value t))
   unfolding see
   all_writes = subst (AllBanked (2 ^ m.abits) m.size q (open_writes d i m (sees value t)))
-      (sym (of_old (λ x. writes_by i (banked_memory c m entry) x.kind (map see x.pins)) (λ kind pins. refl) c entries d))
+      (sym (of_old (λ x. writes_by i (banked_memory c m entry) x.kind (map see x.pins)) (λ kind pins. refl) c entries
+      d))
       (all_flat (2 ^ m.abits) m.size q (λ x. writes_by i m x.kind (map see x.pins))
-      (λ x. writes_by i (banked_memory c m entry) x.kind (map see (banked_pins context (first_guard c d) d x.kind x.pins)))
+      (λ x. writes_by i (banked_memory c m entry) x.kind
+      (map see (banked_pins context (first_guard c d) d x.kind x.pins)))
       d.vertices (λ v x found. vertex_writes v x found x.kind refl))

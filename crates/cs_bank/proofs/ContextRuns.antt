@@ -46,14 +46,16 @@ pub record CanBankDraft (c : ℕ) (entries : List (Option (List Image))) (d : Dr
 abbrev pub draft_of_context : ℕ → List (Option (List Image)) → Draft → Draft
 draft_of_context k entries d = record d { memories = with_entries (memory_in k) d.memories entries }
 
-inputs_in : (f g : OpenVertex → OpenVertex) → ((x : OpenVertex) → (f (g x)).kind ≡ x.kind) → (xs ys : List OpenVertex) (v : ℕ)
+inputs_in : (f g : OpenVertex → OpenVertex) → ((x : OpenVertex) → (f (g x)).kind ≡ x.kind)
+    → (xs ys : List OpenVertex) (v : ℕ)
     → v < length xs → open_inputs_before (map f (map g xs) ++ ys) v ≡ open_inputs_before xs v
 inputs_in f g keeps [] ys v h = absurd (omega (arith, h))
 inputs_in f g keeps (x ∷ xs) ys zero h = refl
 inputs_in f g keeps (x ∷ xs) ys (suc v) h =
     ap₂ (λ kind n. (if is_input kind then 1 else 0) + n) (keeps x) (inputs_in f g keeps xs ys v (omega (arith, h)))
 
-module _ (c : ℕ) (entries : List (Option (List Image))) (w : Draft) (can : CanBankDraft c entries w) (k : ℕ) (below : k < c)
+module _ (c : ℕ) (entries : List (Option (List Image))) (w : Draft) (can : CanBankDraft c entries w) (k : ℕ)
+    (below : k < c)
     (clocks : ℕ) (row : ℕ → Row) (value : ℕ → Outs) (words : ℕ → ℕ → Words)
     (run : DraftRuns false (banked c entries (slow_draft c w)) clocks row value words) where
   abbrev slowed : Draft
@@ -68,8 +70,10 @@ module _ (c : ℕ) (entries : List (Option (List Image))) (w : Draft) (can : Can
   pub words_of : ℕ → ℕ → Words
   words_of n i = words_alone c (2 ^ address_bits (slice_get w.memories i)) (λ t. words t i) k n
 
-  see_digits : (t : ℕ) → t < clocks → map (sees value t) (context_pins c (length slowed.vertices)) ≡ digits (context_bits c) (t % c)
-  see_digits t h = see_context false (banked c entries slowed) c (length slowed.vertices) clocks row value words (omega (arith, below)) run (bit_vertex c entries slowed) t h
+  see_digits : (t : ℕ) → t < clocks → map (sees value t) (context_pins c (length slowed.vertices)) ≡ digits
+      (context_bits c) (t % c)
+  see_digits t h = see_context false (banked c entries slowed) c (length slowed.vertices) clocks row value words
+      (omega (arith, below)) run (bit_vertex c entries slowed) t h
 
   -- ---- one memory
 
@@ -91,7 +95,8 @@ module _ (c : ℕ) (entries : List (Option (List Image))) (w : Draft) (can : Can
 
     goes : (t : ℕ) → t < clocks → words (suc t) i ≡ fold after_write (words t i) (writes' t)
     unfolding writes'
-    goes t h = run.goes_on t h i ∙ ap (λ o. open_memory false (banked c entries slowed) i o (sees value t) (words t i)) memory_of_all
+    goes t h = run.goes_on t h i ∙ ap (λ o. open_memory false (banked c entries slowed) i o (sees value t) (words t i))
+        memory_of_all
 
     banked_at : (t : ℕ) → t < clocks → AllBanked (2 ^ m.abits) m.size (t % c) (writes t) (writes' t)
     unfolding writes writes'
@@ -99,7 +104,8 @@ module _ (c : ℕ) (entries : List (Option (List Image))) (w : Draft) (can : Can
         let turn = mod_below t c (omega (arith, below)) in
         let bits = enough_bits c in
         let whole = can.whole i m is in
-        all_writes false c entries slowed clocks row value words run (ports_slow c w can.ports) t h (t % c) (omega (arith, turn, bits)) (see_digits t h) i m entry is whole.some
+        all_writes false c entries slowed clocks row value words run (ports_slow c w can.ports) t h (t % c)
+        (omega (arith, turn, bits)) (see_digits t h) i m entry is whole.some
 
     own_turn : (n : ℕ) → n * c + k < clocks → bank_words (2 ^ m.abits) k (words (n * c + k) i) ≡ words_of n i
     unfolding words_of
@@ -110,10 +116,12 @@ module _ (c : ℕ) (entries : List (Option (List Image))) (w : Draft) (can : Can
     same_writes : (n : ℕ) → n * c + k < clocks → writes (n * c + k) ≡ open_writes w i m (sees alone n)
     unfolding writes alone
     same_writes n h =
-        flat_map-map (λ (x : OpenVertex). writes_by i m x.kind (map (sees value (n * c + k)) x.pins)) (slow_open c) w.vertices
+        flat_map-map (λ (x : OpenVertex). writes_by i m x.kind (map (sees value (n * c + k)) x.pins))
+        (slow_open c) w.vertices
         ∙ flat_map_same (λ x. writes_by i m x.kind (map (sees value (n * c + k)) (map (slow_pin c) x.pins)))
         (λ x. writes_by i m x.kind (map (sees alone n) x.pins)) w.vertices
-        (λ v x found. ap (writes_by i m x.kind) (pins_slow c k below value (length w.vertices) n x.pins (λ j s at. can.within v j x s found at)))
+        (λ v x found. ap (writes_by i m x.kind)
+        (pins_slow c k below value (length w.vertices) n x.pins (λ j s at. can.within v j x s found at)))
 
     own_next : (n : ℕ) → n * c + k < clocks
         → words_of (suc n) i ≡ fold (taken_in true m) (words_of n i) (open_writes w i m (sees alone n))
@@ -121,7 +129,8 @@ module _ (c : ℕ) (entries : List (Option (List Image))) (w : Draft) (can : Can
     own_next n h =
         ap (λ o. words_alone c (2 ^ address_bits o) (λ t. words t i) k (suc n)) is
         ∙ next_turn c (2 ^ m.abits) m (λ t. words t i) writes writes' clocks goes banked_at n k below h
-        ∙ ap₂ (λ now ws. fold (taken_in true m) now ws) (sym (ap (λ o. words_alone c (2 ^ address_bits o) (λ t. words t i) k n) is)) (same_writes n h)
+        ∙ ap₂ (λ now ws. fold (taken_in true m) now ws)
+        (sym (ap (λ o. words_alone c (2 ^ address_bits o) (λ t. words t i) k n) is)) (same_writes n h)
 
     own_start : words_of 0 i ≡ start_words (slice_get own.memories i)
     unfolding words_of words_alone
@@ -175,7 +184,8 @@ module _ (c : ℕ) (entries : List (Option (List Image))) (w : Draft) (can : Can
 
   -- ---- the run
 
-  begins_at : (i : ℕ) (o : Option Memory) → slice_get w.memories i ≡ o → words_of 0 i ≡ start_words (slice_get own.memories i)
+  begins_at : (i : ℕ) (o : Option Memory) → slice_get w.memories i ≡ o
+      → words_of 0 i ≡ start_words (slice_get own.memories i)
   begins_at i None is = none_first i is ∙ sym (ap start_words (no_own i is))
   begins_at i (Some m) is = own_start i m is
 
@@ -190,7 +200,8 @@ module _ (c : ℕ) (entries : List (Option (List Image))) (w : Draft) (can : Can
     plain_pins = pins_slow c k below value (length w.vertices) n x.pins (λ j s at. can.within v j x s is at)
 
     abbrev pins_of_all : VertexKind → List (Option Source)
-    pins_of_all kind = banked_pins (context_pins c (length slowed.vertices)) (first_guard c slowed) slowed kind (map (slow_pin c) x.pins)
+    pins_of_all kind = banked_pins (context_pins c (length slowed.vertices)) (first_guard c slowed) slowed kind
+        (map (slow_pin c) x.pins)
 
     output_same : (kind : VertexKind) → x.kind ≡ kind → (i o : ℕ)
         → output_of kind i (row (n * c + k)) (words (n * c + k)) (map (sees value (n * c + k)) (pins_of_all kind)) o
@@ -208,8 +219,10 @@ module _ (c : ℕ) (entries : List (Option (List Image))) (w : Draft) (can : Can
         let long : length (map (sees alone n) x.pins) ≡ port.0.abits = length-map x.pins (sees alone n) ∙ port.2 in
         let enough = enough_bits c in
         ap (λ pins. read_bit (words t memory) pins o)
-        (map-append (sees value t) (map (slow_pin c) x.pins) (context_pins c (length slowed.vertices)) ∙ ap₂ (λ y z. y ++ z) plain_pins bits)
-        ∙ read_same (words t memory) (2 ^ port.0.abits) k (map (sees alone n) x.pins) (digits (context_bits c) k) o (ap (λ a. 2 ^ a) (sym long)) (number_of-digits (context_bits c) k (omega (arith, below, enough)))
+        (map-append (sees value t) (map (slow_pin c) x.pins) (context_pins c (length slowed.vertices))
+        ∙ ap₂ (λ y z. y ++ z) plain_pins bits)
+        ∙ read_same (words t memory) (2 ^ port.0.abits) k (map (sees alone n) x.pins) (digits (context_bits c) k) o
+        (ap (λ a. 2 ^ a) (sym long)) (number_of-digits (context_bits c) k (omega (arith, below, enough)))
         ∙ ap (λ ws. read_bit ws (map (sees alone n) x.pins) o) (own_turn memory port.0 port.1 n h)
     output_same (WritePort memory p) kind i o = refl
 
@@ -229,26 +242,32 @@ module _ (c : ℕ) (entries : List (Option (List Image))) (w : Draft) (can : Can
 
     vertex_of_all : slice_get (banked c entries slowed).vertices v
         ≡ option_map (banked_of c entries slowed) (option_map (slow_open c) (slice_get w.vertices v))
-    vertex_of_all = old_vertex c entries slowed v in_slowed ∙ ap (option_map (banked_of c entries slowed)) (slice_get-map (slow_open c) w.vertices v)
+    vertex_of_all = old_vertex c entries slowed v in_slowed
+        ∙ ap (option_map (banked_of c entries slowed)) (slice_get-map (slow_open c) w.vertices v)
 
     inputs_of_all : open_inputs_before (banked c entries slowed).vertices v ≡ open_inputs_before w.vertices v
-    inputs_of_all = inputs_in (banked_of c entries slowed) (slow_open c) (λ x. refl) w.vertices (new_vertices c slowed) v in_range
+    inputs_of_all = inputs_in (banked_of c entries slowed) (slow_open c) (λ x. refl) w.vertices (new_vertices c slowed)
+        v in_range
 
-  settles_at : (n v o : ℕ) → n * c + k < clocks → alone n v o ≡ open_value own (row (n * c + k)) (words_of n) (sees alone n) v o
+  settles_at : (n v o : ℕ) → n * c + k < clocks → alone n v o ≡ open_value own (row (n * c + k)) (words_of n)
+      (sees alone n) v o
   unfolding alone
   settles_at n v o h = elim (cases_lt v (length w.vertices)) [
     | inl in_range ↦
         context_in c k below value (length w.vertices) n v o in_range
         ∙ run.settles (n * c + k) h v o
-        ∙ ap₂ (λ x i. open_output x i (row (n * c + k)) (words (n * c + k)) (sees value (n * c + k)) o) (vertex_of_all v in_range) (inputs_of_all v in_range)
+        ∙ ap₂ (λ x i. open_output x i (row (n * c + k)) (words (n * c + k)) (sees value (n * c + k)) o)
+        (vertex_of_all v in_range) (inputs_of_all v in_range)
         ∙ by n v o h (slice_get w.vertices v) refl
     | inr out ↦
         context_out c k below value (length w.vertices) n v o out
-        ∙ sym (ap (λ x. open_output x (open_inputs_before w.vertices v) (row (n * c + k)) (words_of n) (sees alone n) o) (slice_get_past w.vertices v out))
+        ∙ sym (ap (λ x. open_output x (open_inputs_before w.vertices v) (row (n * c + k)) (words_of n) (sees alone n) o)
+        (slice_get_past w.vertices v out))
   ]
     where
       by : (n v o : ℕ) → n * c + k < clocks → (x : Option OpenVertex) → slice_get w.vertices v ≡ x
-          → open_output (option_map (banked_of c entries slowed) (option_map (slow_open c) x)) (open_inputs_before w.vertices v) (row (n * c + k)) (words (n * c + k)) (sees value (n * c + k)) o
+          → open_output (option_map (banked_of c entries slowed) (option_map (slow_open c) x))
+          (open_inputs_before w.vertices v) (row (n * c + k)) (words (n * c + k)) (sees value (n * c + k)) o
           ≡ open_output x (open_inputs_before w.vertices v) (row (n * c + k)) (words_of n) (sees alone n) o
       by n v o h None is = refl
       by n v o h (Some x) is = output_same n h v x is x.kind refl (open_inputs_before w.vertices v) o
@@ -258,7 +277,8 @@ module _ (c : ℕ) (entries : List (Option (List Image))) (w : Draft) (can : Can
       → ((n : ℕ) → n < clocks' → row (n * c + k) ≡ row' n) → DraftRuns true own clocks' row' alone words_of
   context_run clocks' row' inside same = record {
     begins = λ i. begins_at i (slice_get w.memories i) refl;
-    settles = λ n h v o. settles_at n v o (inside n h) ∙ ap (λ r. open_value own r (words_of n) (sees alone n) v o) (same n h);
+    settles = λ n h v o. settles_at n v o (inside n h)
+        ∙ ap (λ r. open_value own r (words_of n) (sees alone n) v o) (same n h);
     goes_on = λ n h i. goes_at n i (inside n h) (slice_get w.memories i) refl;
   }
 
@@ -267,6 +287,8 @@ module _ (c : ℕ) (entries : List (Option (List Image))) (w : Draft) (can : Can
       → open_outputs (banked c entries slowed) (sees value (n * c + k)) ≡ open_outputs own (sees alone n)
   context_shows n h =
       of_old (λ x. shown_by x.kind (map (sees value (n * c + k)) x.pins)) (λ kind pins. refl) c entries slowed
-      ∙ flat_map-map (λ x. shown_by x.kind (map (sees value (n * c + k)) (banked_of c entries slowed x).pins)) (slow_open c) w.vertices
-      ∙ flat_map_same (λ x. shown_by x.kind (map (sees value (n * c + k)) (banked_of c entries slowed (slow_open c x)).pins))
+      ∙ flat_map-map (λ x. shown_by x.kind (map (sees value (n * c + k)) (banked_of c entries slowed x).pins))
+      (slow_open c) w.vertices
+      ∙ flat_map_same
+      (λ x. shown_by x.kind (map (sees value (n * c + k)) (banked_of c entries slowed (slow_open c x)).pins))
       (λ x. shown_by x.kind (map (sees alone n) x.pins)) w.vertices (λ v x is. shown_same n h v x is x.kind)

@@ -26,7 +26,8 @@ bits_enough (suc most) contexts h = elim (cases_lt (2 ^ most) contexts) [
 
 below_power : (n : ℕ) → n < 2 ^ n
 below_power zero = omega arith
-below_power (suc n) = let rest = below_power n in let double : 2 ^ suc n ≡ 2 * 2 ^ n = omega arith in omega (arith, rest, double)
+below_power (suc n) = let rest = below_power n in let double : 2 ^ suc n ≡ 2 * 2 ^ n = omega arith in omega
+    (arith, rest, double)
 
 -- the context bits are enough
 pub enough_bits : (contexts : ℕ) → contexts ≤ 2 ^ context_bits contexts
@@ -84,9 +85,11 @@ at_past n w j h = omega (arith, ints, h)
 pub get_range : (a n i : ℕ) → i < n → slice_get (range_with_len a n) i ≡ Some (a + i)
 get_range a zero i h = absurd (omega (arith, h))
 get_range a (suc n) zero h = let place : a ≡ a + 0 = omega arith in ap Some place
-get_range a (suc n) (suc i) h = let place : (a + 1) + i ≡ a + suc i = omega arith in get_range (a + 1) n i (omega (arith, h)) ∙ ap Some place
+get_range a (suc n) (suc i) h = let place : (a + 1) + i ≡ a + suc i = omega arith in get_range (a + 1) n i
+    (omega (arith, h)) ∙ ap Some place
 
-pub get_context_bit : (c n j : ℕ) → j < context_bits c → slice_get (context_vertices c n) j ≡ Some (context_bit c (n + j) j)
+pub get_context_bit : (c n j : ℕ) → j < context_bits c
+    → slice_get (context_vertices c n) j ≡ Some (context_bit c (n + j) j)
 get_context_bit c n j h =
     let place : 0 + j ≡ j = omega arith in
     slice_get-map (λ i. context_bit c (n + i) i) (range_with_len 0 (context_bits c)) j
@@ -101,8 +104,10 @@ module _ (bounded : Bool) (d : Draft) (c first clocks : ℕ) (row : ℕ → Row)
   bit_is t j h low =
       let long = length-map-range_with_len (λ i. digit j (context_of c i)) 0 c in
       run.settles t h (first + j) 0
-      ∙ ap (λ x. open_output x (open_inputs_before d.vertices (first + j)) (row t) (words t) (sees value t) 0) (found j low)
-      ∙ ap (λ w. carried_from (record { from = first + j; output = 0; contents = counter_contents c j }) value (pos t -ℤ pos w)) long
+      ∙ ap (λ x. open_output x (open_inputs_before d.vertices (first + j)) (row t) (words t) (sees value t) 0)
+      (found j low)
+      ∙ ap (λ w. carried_from (record { from = first + j; output = 0; contents = counter_contents c j }) value
+      (pos t -ℤ pos w)) long
 
   back : (r : ℕ) → r < c → context_of c (c - r - 1) ≡ r
   back r small =
@@ -117,20 +122,23 @@ module _ (bounded : Bool) (d : Draft) (c first clocks : ℕ) (row : ℕ → Row)
       let i = c - r - 1 in
       let sum : (0 * c + r) + suc i ≡ c = omega (arith, small) in
       bit_is (0 * c + r) j h low
-      ∙ ap (carried_from (record { from = first + j; output = 0; contents = counter_contents c j }) value) (at_past (0 * c + r) c i sum)
+      ∙ ap (carried_from (record { from = first + j; output = 0; contents = counter_contents c j }) value)
+      (at_past (0 * c + r) c i sum)
       ∙ get_or-map-range_with_len (λ i. digit j (context_of c i)) 0 c i i false (omega (arith, small)) (omega arith)
       ∙ ap (digit j) (back r small)
   counts (suc q) r j small h low =
       let sum : (q * c + r) + c ≡ suc q * c + r = omega arith in
       bit_is (suc q * c + r) j h low
-      ∙ ap (carried_from (record { from = first + j; output = 0; contents = counter_contents c j }) value) (at_now (suc q * c + r) c (q * c + r) sum)
+      ∙ ap (carried_from (record { from = first + j; output = 0; contents = counter_contents c j }) value)
+      (at_now (suc q * c + r) c (q * c + r) sum)
       ∙ counts q r j small (omega (arith, h, sum)) low
 
   -- bit j at a clock is digit j of the number of the clock's context
   pub counted : (t j : ℕ) → t < clocks → j < context_bits c → value t (first + j) 0 ≡ digit j (t % c)
   counted t j h low =
       let is : t / c * c + t % c ≡ t = div-add-mod' t c in
-      ap (λ n. value n (first + j) 0) (sym is) ∙ counts (t / c) (t % c) j (mod_below t c some) (omega (arith, h, is)) low
+      ap (λ n. value n (first + j) 0) (sym is)
+      ∙ counts (t / c) (t % c) j (mod_below t c some) (omega (arith, h, is)) low
 
   see_digits : (t : ℕ) → t < clocks → (left s : ℕ) → s + left ≡ context_bits c
       → map (sees value t) (map wire (range_with_len (first + s) left)) ≡ digits left (halved s (t % c))
@@ -138,12 +146,15 @@ module _ (bounded : Bool) (d : Draft) (c first clocks : ℕ) (row : ℕ → Row)
   see_digits t h (suc left) s sum =
       let next : (first + s) + 1 ≡ first + suc s = omega arith in
       ap₂ (λ x xs. x ∷ xs)
-      (ap (carried_from (record { from = first + s; output = 0; contents = [] }) value) (at_now t 0 t (omega arith)) ∙ counted t s h (omega (arith, sum)) ∙ digit_halved s (t % c))
-      (ap (λ a. map (sees value t) (map wire (range_with_len a left))) next ∙ see_digits t h left (suc s) (omega (arith, sum)) ∙ ap (digits left) (halved_more s (t % c)))
+      (ap (carried_from (record { from = first + s; output = 0; contents = [] }) value) (at_now t 0 t (omega arith))
+      ∙ counted t s h (omega (arith, sum)) ∙ digit_halved s (t % c))
+      (ap (λ a. map (sees value t) (map wire (range_with_len a left))) next
+      ∙ see_digits t h left (suc s) (omega (arith, sum)) ∙ ap (digits left) (halved_more s (t % c)))
 
   -- at each clock the context pins see the number of its context
   pub see_context : (t : ℕ) → t < clocks → map (sees value t) (context_pins c first) ≡ digits (context_bits c) (t % c)
   unfolding halved
   see_context t h =
       let place : first ≡ first + 0 = omega arith in
-      ap (λ a. map (sees value t) (map wire (range_with_len a (context_bits c)))) place ∙ see_digits t h (context_bits c) 0 (omega arith)
+      ap (λ a. map (sees value t) (map wire (range_with_len a (context_bits c)))) place
+      ∙ see_digits t h (context_bits c) 0 (omega arith)

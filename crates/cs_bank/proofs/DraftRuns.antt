@@ -86,7 +86,8 @@ sight_inputs [] v = 0
 sight_inputs (s ∷ ss) zero = 0
 sight_inputs (s ∷ ss) (suc v) = (if is_input s.0 then 1 else 0) + sight_inputs ss v
 
-inputs_by_sight : (see : Feed → Bool) (xs : List Vertex) (v : ℕ) → inputs_before xs v ≡ sight_inputs (sights_of see xs) v
+inputs_by_sight : (see : Feed → Bool) (xs : List Vertex) (v : ℕ)
+    → inputs_before xs v ≡ sight_inputs (sights_of see xs) v
 unfolding sight_inputs
 inputs_by_sight see [] v = refl
 inputs_by_sight see (x ∷ xs) zero = refl
@@ -97,25 +98,31 @@ open_inputs_by_sight : (see : Option Source → Bool) (xs : List OpenVertex) (v 
 unfolding sight_inputs
 open_inputs_by_sight see [] v = refl
 open_inputs_by_sight see (x ∷ xs) zero = refl
-open_inputs_by_sight see (x ∷ xs) (suc v) = ap (λ n. (if is_input x.kind then 1 else 0) + n) (open_inputs_by_sight see xs v)
+open_inputs_by_sight see (x ∷ xs) (suc v) = ap (λ n. (if is_input x.kind then 1 else 0) + n)
+    (open_inputs_by_sight see xs v)
 
 output_by_sight : (see : Feed → Bool) (x : Option Vertex) (i : ℕ) (row : Row) (words : ℕ → Words) (o : ℕ)
-    → vertex_output x i row words see o ≡ sight_output (option_map (λ (y : Vertex). (y.kind, map see y.pins)) x) i row words o
+    → vertex_output x i row words see o ≡ sight_output (option_map (λ (y : Vertex). (y.kind, map see y.pins)) x) i row
+    words o
 unfolding sight_output
 output_by_sight see None i row words o = refl
 output_by_sight see (Some x) i row words o = refl
 
-open_output_by_sight : (see : Option Source → Bool) (x : Option OpenVertex) (i : ℕ) (row : Row) (words : ℕ → Words) (o : ℕ)
-    → open_output x i row words see o ≡ sight_output (option_map (λ (y : OpenVertex). (y.kind, map see y.pins)) x) i row words o
+open_output_by_sight : (see : Option Source → Bool) (x : Option OpenVertex) (i : ℕ) (row : Row) (words : ℕ → Words)
+    (o : ℕ)
+    → open_output x i row words see o ≡ sight_output (option_map (λ (y : OpenVertex). (y.kind, map see y.pins)) x) i row
+    words o
 unfolding sight_output
 open_output_by_sight see None i row words o = refl
 open_output_by_sight see (Some x) i row words o = refl
 
-value_by_sight : (see : Feed → Bool) (g : Graph) (row : Row) (words : ℕ → Words) (v o : ℕ) → value_at g row words see v o
+value_by_sight : (see : Feed → Bool) (g : Graph) (row : Row) (words : ℕ → Words) (v o : ℕ)
+    → value_at g row words see v o
     ≡ sight_output (slice_get (sights_of see g.vertices) v) (sight_inputs (sights_of see g.vertices) v) row words o
 value_by_sight see g row words v o =
     output_by_sight see (slice_get g.vertices v) (inputs_before g.vertices v) row words o
-    ∙ ap₂ (λ x i. sight_output x i row words o) (sym (slice_get-map (λ (y : Vertex). (y.kind, map see y.pins)) g.vertices v))
+    ∙ ap₂ (λ x i. sight_output x i row words o)
+    (sym (slice_get-map (λ (y : Vertex). (y.kind, map see y.pins)) g.vertices v))
     (inputs_by_sight see g.vertices v)
 
 open_value_by_sight : (see : Option Source → Bool) (d : Draft) (row : Row) (words : ℕ → Words) (v o : ℕ)
@@ -123,7 +130,8 @@ open_value_by_sight : (see : Option Source → Bool) (d : Draft) (row : Row) (wo
     ≡ sight_output (slice_get (open_sights see d.vertices) v) (sight_inputs (open_sights see d.vertices) v) row words o
 open_value_by_sight see d row words v o =
     open_output_by_sight see (slice_get d.vertices v) (open_inputs_before d.vertices v) row words o
-    ∙ ap₂ (λ x i. sight_output x i row words o) (sym (slice_get-map (λ (y : OpenVertex). (y.kind, map see y.pins)) d.vertices v))
+    ∙ ap₂ (λ x i. sight_output x i row words o)
+    (sym (slice_get-map (λ (y : OpenVertex). (y.kind, map see y.pins)) d.vertices v))
     (open_inputs_by_sight see d.vertices v)
 
 gathered : {A : Type 0} (see : Feed → Bool) (f : VertexKind → List Bool → List A) (xs : List Vertex)
@@ -132,7 +140,8 @@ gathered see f [] = refl
 gathered see f (x ∷ xs) = ap (λ ys. f x.kind (map see x.pins) ++ ys) (gathered see f xs)
 
 open_gathered : {A : Type 0} (see : Option Source → Bool) (f : VertexKind → List Bool → List A) (xs : List OpenVertex)
-    → flat_map (λ (x : OpenVertex). f x.kind (map see x.pins)) xs ≡ flat_map (λ (s : Sight). f s.0 s.1) (open_sights see xs)
+    → flat_map (λ (x : OpenVertex). f x.kind (map see x.pins)) xs ≡ flat_map (λ (s : Sight). f s.0 s.1)
+    (open_sights see xs)
 open_gathered see f [] = refl
 open_gathered see f (x ∷ xs) = ap (λ ys. f x.kind (map see x.pins) ++ ys) (open_gathered see f xs)
 
@@ -161,7 +170,8 @@ module _ (g : Graph) (d : Draft) (memories : g.memories ≡ d.memories) (value :
   memory_alike : (bounded : Bool) (n i : ℕ) (o : Option Memory) (now : Words)
       → memory_after bounded g i o (seen g value n) now ≡ open_memory bounded d i o (sees value n) now
   memory_alike bounded n i None now = refl
-  memory_alike bounded n i (Some m) now = ap (λ (ws : List Write). fold (taken_in bounded m) now ws) (all_alike n (writes_by i m))
+  memory_alike bounded n i (Some m) now = ap (λ (ws : List Write). fold (taken_in bounded m) now ws)
+      (all_alike n (writes_by i m))
 
   pub outputs_alike : (n : ℕ) → outputs_at g (seen g value n) ≡ open_outputs d (sees value n)
   outputs_alike n = all_alike n shown_by
@@ -193,9 +203,12 @@ module _ (g : Graph) (held : (e : ℕ) (d : Edge) → slice_get g.edges e ≡ So
   edge_alike : (o : Option Edge) → ((d : Edge) → o ≡ Some d → length d.contents ≡ d.weight)
       → seen_edge o value n ≡ sees value n (edge_source o)
   edge_alike None h = refl
-  edge_alike (Some d) h = ap (λ w. carried d value (pos n -ℤ pos w)) (sym (h d refl)) ∙ by d (pos n -ℤ pos (length d.contents))
+  edge_alike (Some d) h = ap (λ w. carried d value (pos n -ℤ pos w)) (sym (h d refl))
+      ∙ by d (pos n -ℤ pos (length d.contents))
     where
-      by : (d : Edge) (t : ℤ) → carried d value t ≡ carried_from (record { from = d.from; output = d.output; contents = d.contents }) value t
+      by : (d : Edge) (t : ℤ)
+          → carried d value t ≡ carried_from (record { from = d.from; output = d.output; contents = d.contents }) value
+          t
       by d (pos m) = refl
       by d (negsuc j) = refl
 
@@ -207,7 +220,8 @@ module _ (g : Graph) (held : (e : ℕ) (d : Edge) → slice_get g.edges e ≡ So
   pins_alike [] = refl
   pins_alike (f ∷ fs) = ap₂ (λ y ys. y ∷ ys) (feed_alike f) (pins_alike fs)
 
-  vertices_alike : (xs : List Vertex) → sights_of (seen g value n) xs ≡ open_sights (sees value n) (map (wired_vertex g.edges) xs)
+  vertices_alike : (xs : List Vertex)
+      → sights_of (seen g value n) xs ≡ open_sights (sees value n) (map (wired_vertex g.edges) xs)
   vertices_alike [] = refl
   vertices_alike (x ∷ xs) = ap₂ (λ y ys. (x.kind, y) ∷ ys) (pins_alike x.pins) (vertices_alike xs)
 
@@ -226,7 +240,16 @@ module _ (g : Graph) (value : ℕ → Outs) (n : ℕ) where
       let found = at_drop g.edges e _ rest h in
       ap (λ o. seen_edge o value n) found ∙ by (pos n -ℤ pos (length k.contents))
     where
-      by : (t : ℤ) → carried (record { from = k.from; output = k.output; to = v; pin = i; weight = length k.contents; contents = k.contents }) value t ≡ carried_from k value t
+      by : (t : ℤ)
+          → carried (record {
+            from = k.from;
+            output = k.output;
+            to = v;
+            pin = i;
+            weight = length k.contents;
+            contents =
+                k.contents;
+          }) value t ≡ carried_from k value t
       by (pos m) = refl
       by (negsuc j) = refl
 
@@ -250,7 +273,8 @@ module _ (g : Graph) (value : ℕ → Outs) (n : ℕ) where
   drop_more zero m (suc k) (d ∷ ds) (x ∷ xs) ys h count sum =
       let place : m ≡ suc k = omega (arith, sum) in
       ap (λ n. drop n (d ∷ ds)) place
-      ∙ drop_more zero k k ds xs ys (drop_none ds ∙ ap (λ zs. drop 1 zs) h' ∙ drop_none (xs ++ ys)) (omega (arith, count)) (omega arith)
+      ∙ drop_more zero k k ds xs ys (drop_none ds ∙ ap (λ zs. drop 1 zs) h' ∙ drop_none (xs ++ ys))
+      (omega (arith, count)) (omega arith)
     where
       drop_none : (zs : List Edge) → drop 0 zs ≡ zs
       drop_none [] = refl
@@ -259,7 +283,8 @@ module _ (g : Graph) (value : ℕ → Outs) (n : ℕ) where
       h' : d ∷ ds ≡ x ∷ (xs ++ ys)
       h' = h
   drop_more (suc e) zero k (d ∷ ds) (x ∷ xs) ys h count sum = absurd (omega (arith, sum))
-  drop_more (suc e) (suc m) k (d ∷ ds) (x ∷ xs) ys h count sum = drop_more e m k ds (x ∷ xs) ys h count (omega (arith, sum))
+  drop_more (suc e) (suc m) k (d ∷ ds) (x ∷ xs) ys h count sum = drop_more e m k ds (x ∷ xs) ys h count
+      (omega (arith, sum))
 
   feeds_built : (v i e : ℕ) (ss : List (Option Source)) (rest : List Edge) → drop e g.edges ≡ edges_into v i ss ++ rest
       → map (seen g value n) (feeds_from e ss) ≡ map (sees value n) ss
@@ -267,7 +292,9 @@ module _ (g : Graph) (value : ℕ → Outs) (n : ℕ) where
   feeds_built v i e (s ∷ ss) rest h =
       let split = h ∙ append_assoc (edge_into v i s) (edges_into v (i + 1) ss) rest in
       ap₂ (λ y ys. y ∷ ys) (feed_built v i e s (edges_into v (i + 1) ss ++ rest) split)
-      (feeds_built v (i + 1) (e + driven s) ss rest (drop_more e (e + driven s) (driven s) g.edges (edge_into v i s) (edges_into v (i + 1) ss ++ rest) split (length_edge_into v i s) refl))
+      (feeds_built v (i + 1) (e + driven s) ss rest
+      (drop_more e (e + driven s) (driven s) g.edges (edge_into v i s) (edges_into v (i + 1) ss ++ rest) split
+      (length_edge_into v i s) refl))
 
   all_built : (v e : ℕ) (xs : List OpenVertex) → drop e g.edges ≡ edges_from v xs
       → sights_of (seen g value n) (vertices_from e xs) ≡ open_sights (sees value n) xs
@@ -275,7 +302,9 @@ module _ (g : Graph) (value : ℕ → Outs) (n : ℕ) where
   all_built v e (x ∷ xs) h =
       let count = sum_by driven x.pins in
       ap₂ (λ y ys. (x.kind, y) ∷ ys) (feeds_built v 0 e x.pins (edges_from (v + 1) xs) h)
-      (all_built (v + 1) (e + count) xs (drop_more e (e + count) count g.edges (edges_into v 0 x.pins) (edges_from (v + 1) xs) h (length_edges_into v 0 x.pins) refl))
+      (all_built (v + 1) (e + count) xs
+      (drop_more e (e + count) count g.edges (edges_into v 0 x.pins) (edges_from (v + 1) xs) h
+      (length_edges_into v 0 x.pins) refl))
 
 -- what is built of a draft sees what the draft's pins say
 pub built_alike : (d : Draft) (value : ℕ → Outs) (n : ℕ) → SeeAlike (built d) d value n

@@ -1,15 +1,17 @@
 -- Small memories banked, computed: one with a guard, one in three banks, and images of two contexts.
 use Rattle.std.proofs.Common.{◌≡◌, ℕ, Bool, true, false, List, [], ◌∷◌, ◌++◌, length, map, refl, Some, None}
-use Rattle.std.specs.Prelude.{drop}
+use Rattle.std.specs.Prelude.{drop, replicate}
+use Rattle.cs_base.specs.declared.limit.Counted.TheVariants.{Vertices}
 use Rattle.cs_cells.specs.declared.gate.Kind.TheVariants.{And, Buf, Not, OrNot}
 use Rattle.cs_graph.specs.declared.edge.Edge.{Edge}
 use Rattle.cs_graph.specs.declared.graph.Graph.{Graph}
-use Rattle.cs_graph.specs.declared.vertex.Feed.TheVariants.{Edge as Along}
+use Rattle.cs_graph.specs.declared.vertex.Feed.TheVariants.{Edge as Along, Tied}
 use Rattle.cs_graph.specs.declared.vertex.Vertex.{Vertex}
 use Rattle.cs_graph.specs.declared.vertex.VertexKind.{VertexKind}
 use Rattle.cs_graph.specs.declared.vertex.VertexKind.TheVariants.{Gate, Host, Input, Output, Read, Write}
 use Rattle.cs_graph.specs.Slow.{slow}
 use Rattle.cs_bank.specs.Bank.{bank}
+use Rattle.cs_bank.specs.BankFaults.{bank_fault}
 
 abbrev vertex : VertexKind → List ℕ → Vertex
 vertex kind edges = record { kind = kind; pins = map Along edges }
@@ -22,9 +24,11 @@ edge u v i contents = record { from = u; output = 0; to = v; pin = i; weight = l
 abbrev memory_graph : ℕ → List Bool → Graph
 memory_graph size start = record {
   vertices = vertex Host [] ∷ vertex Input [] ∷ vertex Input [] ∷ vertex Input [] ∷ vertex Input [] ∷ vertex Input []
-      ∷ vertex Output (0 ∷ []) ∷ vertex Output (1 ∷ []) ∷ vertex (Read 0 0) (2 ∷ 3 ∷ []) ∷ vertex (Write 0 0) (4 ∷ 5 ∷ 6 ∷ 7 ∷ 8 ∷ 9 ∷ [])
+      ∷ vertex Output (0 ∷ []) ∷ vertex Output (1 ∷ []) ∷ vertex (Read 0 0) (2 ∷ 3 ∷ []) ∷ vertex (Write 0 0)
+      (4 ∷ 5 ∷ 6 ∷ 7 ∷ 8 ∷ 9 ∷ [])
       ∷ [];
-  edges = edge 8 6 0 [] ∷ record (edge 8 7 0 []) { output = 1 } ∷ edge 1 8 0 [] ∷ edge 2 8 1 [] ∷ edge 1 9 0 [] ∷ edge 2 9 1 []
+  edges = edge 8 6 0 [] ∷ record (edge 8 7 0 []) { output = 1 } ∷ edge 1 8 0 [] ∷ edge 2 8 1 [] ∷ edge 1 9 0 [] ∷ edge 2
+      9 1 []
       ∷ edge 3 9 2 [] ∷ edge 4 9 3 [] ∷ edge 5 9 4 [] ∷ edge 5 9 5 [] ∷ [];
   memories = record { size = size; words = 4; abits = 2; width = 2; start = start } ∷ [];
 }
@@ -37,7 +41,8 @@ start = false ∷ false ∷ false ∷ true ∷ false ∷ false ∷ false ∷ fal
 m2 : bank 2 (None ∷ []) (slow 2 (memory_graph 3 start)) ≡ record {
   vertices = vertex Host [] ∷ vertex Input [] ∷ vertex Input [] ∷ vertex Input [] ∷ vertex Input [] ∷ vertex Input []
       ∷ vertex Output (0 ∷ []) ∷ vertex Output (1 ∷ []) ∷ vertex (Read 0 0) (2 ∷ 3 ∷ 4 ∷ [])
-      ∷ vertex (Write 0 0) (5 ∷ 6 ∷ 7 ∷ 8 ∷ 9 ∷ 10 ∷ 11 ∷ []) ∷ vertex (Gate Buf) (12 ∷ []) ∷ vertex (Gate Not) (13 ∷ [])
+      ∷ vertex (Write 0 0) (5 ∷ 6 ∷ 7 ∷ 8 ∷ 9 ∷ 10 ∷ 11 ∷ []) ∷ vertex (Gate Buf) (12 ∷ []) ∷ vertex (Gate Not)
+      (13 ∷ [])
       ∷ vertex (Gate OrNot) (14 ∷ 15 ∷ []) ∷ vertex (Gate And) (16 ∷ 17 ∷ []) ∷ vertex (Gate And) (18 ∷ 19 ∷ []) ∷ [];
   edges = edge 8 6 0 [] ∷ record (edge 8 7 0 []) { output = 1 } ∷ edge 1 8 0 [] ∷ edge 2 8 1 [] ∷ edge 10 8 2 []
       ∷ edge 1 9 0 [] ∷ edge 2 9 1 [] ∷ edge 10 9 2 [] ∷ edge 3 9 3 [] ∷ edge 4 9 4 [] ∷ edge 13 9 5 [] ∷ edge 14 9 6 []
@@ -69,13 +74,16 @@ images : (bank 2 (Some (start ∷ other ∷ []) ∷ []) (slow 2 (memory_graph 4 
 images = refl
 
 -- M2 with images of its three words: the fourth word of each bank starts as 0
-short_images : (bank 2 (Some ((true ∷ true ∷ true ∷ true ∷ true ∷ true ∷ []) ∷ (false ∷ true ∷ false ∷ true ∷ false ∷ true ∷ []) ∷ [])
+short_images :
+    (bank 2 (Some ((true ∷ true ∷ true ∷ true ∷ true ∷ true ∷ []) ∷ (false ∷ true ∷ false ∷ true ∷ false ∷ true ∷ []) ∷
+    [])
     ∷ []) (slow 2 (memory_graph 3 start))).memories ≡ record {
       size = 3;
       words = 8;
       abits = 3;
       width = 2;
-      start = true ∷ true ∷ true ∷ true ∷ true ∷ true ∷ false ∷ false ∷ false ∷ true ∷ false ∷ true ∷ false ∷ true ∷ false
+      start = true ∷ true ∷ true ∷ true ∷ true ∷ true ∷ false ∷ false ∷ false ∷ true ∷ false ∷ true ∷ false ∷ true ∷
+          false
           ∷ false ∷ [];
     } ∷ []
 short_images = refl
@@ -84,3 +92,17 @@ short_images = refl
 one_context : map (λ (x : Vertex). x.kind) (drop 10 (bank 1 (None ∷ []) (slow 1 (memory_graph 3 start))).vertices) ≡
     Gate Not ∷ Gate OrNot ∷ Gate And ∷ Gate And ∷ []
 one_context = refl
+
+-- the guards of many enable bits are too many vertices
+abbrev wide : Graph
+wide = record {
+  vertices = vertex Host [] ∷ record { kind = Write 0 0; pins = replicate 8402 (Tied false) } ∷ [];
+  edges = [];
+  memories = record { size = 3; words = 4; abits = 2; width = 4200; start = replicate 16800 false } ∷ [];
+}
+
+too_wide : bank_fault 1 (None ∷ []) wide ≡ Some (record { what = Vertices; found = 4204; most = 4096 })
+too_wide = refl
+
+m2_fits : bank_fault 2 (None ∷ []) (slow 2 (memory_graph 3 start)) ≡ None
+m2_fits = refl

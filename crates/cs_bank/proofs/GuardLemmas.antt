@@ -25,8 +25,10 @@ use Rattle.cs_bank.proofs.SizeTests.{StandAt, gate_is, length-below_size, length
 
 pub number_below : (bs : List Bool) → number_of bs < 2 ^ length bs
 number_below [] = omega arith
-number_below (true ∷ bs) = let rest = number_below bs in let power : 2 ^ suc (length bs) ≡ 2 * 2 ^ length bs = omega arith in omega arith
-number_below (false ∷ bs) = let rest = number_below bs in let power : 2 ^ suc (length bs) ≡ 2 * 2 ^ length bs = omega arith in omega arith
+number_below (true ∷ bs) = let rest = number_below bs in let power : 2 ^ suc (length bs) ≡ 2 * 2 ^ length bs = omega
+    arith in omega arith
+number_below (false ∷ bs) = let rest = number_below bs in let power : 2 ^ suc (length bs) ≡ 2 * 2 ^ length bs = omega
+    arith in omega arith
 
 -- ---- parts of a list that stands in a draft
 
@@ -53,10 +55,11 @@ address_of m pins = take m.abits pins
 abbrev pub enables_of : Memory → List (Option Source) → List (Option Source)
 enables_of m pins = drop m.width (drop m.abits pins)
 
-pub address_count : (m : Memory) (pins : List (Option Source)) → AreWritePins m pins → length (address_of m pins) ≡ m.abits
+pub address_count : (m : Memory) (pins : List (Option Source)) → AreWritePins m pins
+    → length (address_of m pins) ≡ m.abits
 address_count m pins h = let count = length-take m.abits pins in omega (arith, h, count)
 
-enable_count : (m : Memory) (pins : List (Option Source)) → AreWritePins m pins → length (enables_of m pins) ≡ m.width
+pub enable_count : (m : Memory) (pins : List (Option Source)) → AreWritePins m pins → length (enables_of m pins) ≡ m.width
 enable_count m pins h =
     let count = length-drop m.abits pins in
     let rest = length-drop m.width (drop m.abits pins) in
@@ -118,7 +121,8 @@ module _ (bounded : Bool) (d : Draft) (clocks : ℕ) (row : ℕ → Row) (value 
         let last = v + memory_tests m - 1 in
         let tests = below_size v (address_of m pins) (digits m.abits m.size) in
         let count = address_count m pins are in
-        let many = length-below_size v (address_of m pins) (digits m.abits m.size) (count ∙ sym (length-digits m.abits m.size)) in
+        let many = length-below_size v (address_of m pins) (digits m.abits m.size) (count
+        ∙ sym (length-digits m.abits m.size)) in
         let left = stand_left d v tests (guarded_enables last (enables_of m pins)) stand in
         let right = stand_right d v tests (guarded_enables last (enables_of m pins)) stand in
         let answer = tests_are bounded d clocks row value words run t h v m.size (address_of m pins) some
@@ -135,16 +139,20 @@ module _ (bounded : Bool) (d : Draft) (clocks : ℕ) (row : ℕ → Row) (value 
     enables_are stand = elim (cases_lt m.size (2 ^ m.abits)) [
       | inl few ↦
           let on = lt-ltb m.size (2 ^ m.abits) few in
-          ap (λ b. map (sees value t) (if b then map wire (range_with_len (v + memory_tests m) m.width) else enables_of m pins)) on
+          ap (λ b. map (sees value t)
+          (if b then map wire (range_with_len (v + memory_tests m) m.width) else enables_of m pins)) on
           ∙ guarded_see few (subst (λ b. StandAt d v (if b then guard_gates v m pins else [])) on stand)
       | inr all ↦
           let off = le-ltb m.size (2 ^ m.abits) all in
           let count = length-map (address_of m pins) (sees value t) ∙ address_count m pins are in
           let number = number_below (map (sees value t) (address_of m pins)) in
-          let small : number_of (map (sees value t) (address_of m pins)) < m.size = let power = ap (λ a. 2 ^ a) count in omega (arith, number, power, all) in
-          ap (λ b. map (sees value t) (if b then map wire (range_with_len (v + memory_tests m) m.width) else enables_of m pins)) off
+          let small : number_of (map (sees value t) (address_of m pins)) < m.size = let power = ap (λ a. 2 ^ a) count in
+          omega (arith, number, power, all) in
+          ap (λ b. map (sees value t)
+          (if b then map wire (range_with_len (v + memory_tests m) m.width) else enables_of m pins)) off
           ∙ sym (all_through (map (sees value t) (enables_of m pins)))
-          ∙ ap (λ b. map (λ e. e && b) (map (sees value t) (enables_of m pins))) (sym (lt-ltb (number_of (map (sees value t) (address_of m pins))) m.size small))
+          ∙ ap (λ b. map (λ e. e && b) (map (sees value t) (enables_of m pins)))
+          (sym (lt-ltb (number_of (map (sees value t) (address_of m pins))) m.size small))
     ]
 
 -- ---- places
@@ -156,7 +164,8 @@ pub length-port_guards : (v : ℕ) (m : Memory) (xs : List OpenVertex)
 length-port_guards v m [] are = omega arith
 length-port_guards v m (x ∷ xs) are =
     length-append (guard v m x.pins) (port_guards (v + guard_count m) m xs)
-    ∙ ap₂ (λ a b. a + b) (length-guard v m x.pins (are 0 x refl)) (length-port_guards (v + guard_count m) m xs (λ k. are (suc k)))
+    ∙ ap₂ (λ a b. a + b) (length-guard v m x.pins (are 0 x refl))
+    (length-port_guards (v + guard_count m) m xs (λ k. are (suc k)))
     ∙ (let sum : guard_count m + length xs * guard_count m ≡ suc (length xs) * guard_count m = omega arith in sum)
 
 pub get_port_guard : (v : ℕ) (m : Memory) (xs : List OpenVertex) (p t : ℕ) (x : OpenVertex)
@@ -195,15 +204,18 @@ place_after v i (m ∷ ms) vertices (suc k) =
 pub get_guard : (v i : ℕ) (ms : List Memory) (vertices : List OpenVertex) (k t place : ℕ) (m : Memory)
     → HaveWritePins i ms vertices → slice_get ms k ≡ Some m → t < port_guard_count (i + k) m vertices
     → v + place ≡ guards_place v i ms vertices k + t
-    → slice_get (guards v i ms vertices) place ≡ slice_get (port_guards (guards_place v i ms vertices k) m (write_ports (i + k) vertices)) t
+    → slice_get (guards v i ms vertices) place ≡ slice_get
+    (port_guards (guards_place v i ms vertices k) m (write_ports (i + k) vertices)) t
 get_guard v i [] vertices k t place m are found low sum = absurd (none-some m found)
 get_guard v i (n ∷ ms) vertices zero t place m are found low sum =
     let mine = port_guards v n (write_ports i vertices) in
     let here : i + 0 ≡ i = omega arith in
     let same = same_Some n m found in
-    let long = length-port_guards v n (write_ports i vertices) (λ p x at. are 0 p n x refl (ap (λ j. slice_get (write_ports j vertices) p) here ∙ at)) in
+    let long = length-port_guards v n (write_ports i vertices)
+    (λ p x at. are 0 p n x refl (ap (λ j. slice_get (write_ports j vertices) p) here ∙ at)) in
     let at : place ≡ t = omega (arith, sum) in
-    let low' : t < port_guard_count i n vertices = subst (λ j. t < port_guard_count j n vertices) here (subst (λ o. t < port_guard_count (i + 0) o vertices) (sym same) low) in
+    let low' : t < port_guard_count i n vertices = subst (λ j. t < port_guard_count j n vertices) here
+    (subst (λ o. t < port_guard_count (i + 0) o vertices) (sym same) low) in
     ap (slice_get (mine ++ guards (v + port_guard_count i n vertices) (i + 1) ms vertices)) at
     ∙ get_first mine (guards (v + port_guard_count i n vertices) (i + 1) ms vertices) t (omega (arith, long, low'))
     ∙ ap₂ (λ o j. slice_get (port_guards v o (write_ports j vertices)) t) same (sym here)
@@ -212,7 +224,8 @@ get_guard v i (n ∷ ms) vertices (suc k) t place m are found low sum =
     let here : i + 0 ≡ i = omega arith in
     let next : i + suc k ≡ (i + 1) + k = omega arith in
     let v' = v + port_guard_count i n vertices in
-    let long = length-port_guards v n (write_ports i vertices) (λ p x at. are 0 p n x refl (ap (λ j. slice_get (write_ports j vertices) p) here ∙ at)) in
+    let long = length-port_guards v n (write_ports i vertices)
+    (λ p x at. are 0 p n x refl (ap (λ j. slice_get (write_ports j vertices) p) here ∙ at)) in
     let after = place_after v' (i + 1) ms vertices k in
     let rest = place - length mine in
     let split : place ≡ length mine + rest = omega (arith, sum, after, long) in
@@ -220,7 +233,9 @@ get_guard v i (n ∷ ms) vertices (suc k) t place m are found low sum =
     ap (slice_get (mine ++ guards v' (i + 1) ms vertices)) split
     ∙ get_second mine (guards v' (i + 1) ms vertices) rest
     ∙ get_guard v' (i + 1) ms vertices k t rest m
-    (λ j p o x at on. are (suc j) p o x at (ap (λ a. slice_get (write_ports a vertices) p) (let more : i + suc j ≡ (i + 1) + j = omega arith in more) ∙ on))
+    (λ j p o x at on. are (suc j) p o x at
+    (ap (λ a. slice_get (write_ports a vertices) p) (let more : i + suc j ≡ (i + 1) + j = omega arith in more)
+    ∙ on))
     found (subst (λ j. t < port_guard_count j m vertices) next low) sum'
     ∙ ap (λ j. slice_get (port_guards (guards_place v' (i + 1) ms vertices k) m (write_ports j vertices)) t) (sym next)
 
@@ -240,13 +255,17 @@ get_write_port i (y ∷ xs) (suc u) x found is =
   where
     by : slice_get (write_ports i xs) (count_by (is_write_of i) (take u (open_kinds xs))) ≡ Some x → (b : Bool)
         → is_write_of i y.kind ≡ b
-        → count_by (is_write_of i) (y.kind ∷ take u (open_kinds xs)) ≡ cond (is_write_of i y.kind) 1 0 + count_by (is_write_of i) (take u (open_kinds xs))
-        → slice_get (if is_write_of i y.kind then y ∷ write_ports i xs else write_ports i xs) (count_by (is_write_of i) (y.kind ∷ take u (open_kinds xs))) ≡ Some x
+        → count_by (is_write_of i) (y.kind ∷ take u (open_kinds xs)) ≡ cond (is_write_of i y.kind) 1 0 + count_by
+        (is_write_of i) (take u (open_kinds xs))
+        → slice_get (if is_write_of i y.kind then y ∷ write_ports i xs else write_ports i xs)
+        (count_by (is_write_of i) (y.kind ∷ take u (open_kinds xs))) ≡ Some x
     by rest true on count =
-        let many : count_by (is_write_of i) (y.kind ∷ take u (open_kinds xs)) ≡ suc (count_by (is_write_of i) (take u (open_kinds xs))) =
+        let many : count_by (is_write_of i) (y.kind ∷ take u (open_kinds xs)) ≡ suc
+        (count_by (is_write_of i) (take u (open_kinds xs))) =
         count ∙ ap (λ b. cond b 1 0 + count_by (is_write_of i) (take u (open_kinds xs))) on ∙ omega arith in
         ap₂ (λ (b : Bool) n. slice_get (if b then y ∷ write_ports i xs else write_ports i xs) n) on many ∙ rest
     by rest false off count =
-        let many : count_by (is_write_of i) (y.kind ∷ take u (open_kinds xs)) ≡ count_by (is_write_of i) (take u (open_kinds xs)) =
+        let many : count_by (is_write_of i) (y.kind ∷ take u (open_kinds xs)) ≡ count_by (is_write_of i)
+        (take u (open_kinds xs)) =
         count ∙ ap (λ b. cond b 1 0 + count_by (is_write_of i) (take u (open_kinds xs))) off ∙ omega arith in
         ap₂ (λ (b : Bool) n. slice_get (if b then y ∷ write_ports i xs else write_ports i xs) n) off many ∙ rest

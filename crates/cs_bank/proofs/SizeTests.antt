@@ -73,11 +73,13 @@ compares_is [] (d ∷ ds) x y p same h g = absurd (omega arith)
 compares_is (a ∷ bs) [] x y p same h g = absurd (omega arith)
 compares_is (a ∷ bs) (true ∷ ds) x y p same h g =
     ap (λ t. compares t bs ds) (digit_one x y p a h g)
-    ∙ compares_is bs ds (x + p * (if a then 1 else 0)) (y + p * 1) (2 * p) (omega arith) (bit_small x p a h) (omega arith)
+    ∙ compares_is bs ds (x + p * (if a then 1 else 0)) (y + p * 1) (2 * p) (omega arith) (bit_small x p a h)
+    (omega arith)
     ∙ ap₂ (λ m n. nat_lt m n) (regroup x p (if a then 1 else 0) (number_of bs)) (regroup y p 1 (number_of ds))
 compares_is (a ∷ bs) (false ∷ ds) x y p same h g =
     ap (λ t. compares t bs ds) (digit_zero x y p a h g)
-    ∙ compares_is bs ds (x + p * (if a then 1 else 0)) (y + p * 0) (2 * p) (omega arith) (bit_small x p a h) (omega arith)
+    ∙ compares_is bs ds (x + p * (if a then 1 else 0)) (y + p * 0) (2 * p) (omega arith) (bit_small x p a h)
+    (omega arith)
     ∙ ap₂ (λ m n. nat_lt m n) (regroup x p (if a then 1 else 0) (number_of bs)) (regroup y p 0 (number_of ds))
 
 first_one : (x p : ℕ) (a : Bool) → x < p → not a ≡ nat_lt (x + p * (if a then 1 else 0)) (p * 1)
@@ -131,12 +133,14 @@ length-below_size v (a ∷ address) (false ∷ ds) same = length-below_size v ad
 abbrev pub StandAt : Draft → ℕ → List OpenVertex → Type 0
 StandAt d v xs = (j : ℕ) → j < length xs → slice_get d.vertices (v + j) ≡ slice_get xs j
 
-pub stand_rest : (d : Draft) (v : ℕ) (x : OpenVertex) (xs : List OpenVertex) → StandAt d v (x ∷ xs) → StandAt d (v + 1) xs
+pub stand_rest : (d : Draft) (v : ℕ) (x : OpenVertex) (xs : List OpenVertex) → StandAt d v (x ∷ xs)
+    → StandAt d (v + 1) xs
 stand_rest d v x xs h j low =
     let place : (v + 1) + j ≡ v + suc j = omega arith in
     ap (slice_get d.vertices) place ∙ h (suc j) (omega (arith, low))
 
-pub stand_first : (d : Draft) (v : ℕ) (x : OpenVertex) (xs : List OpenVertex) → StandAt d v (x ∷ xs) → slice_get d.vertices v ≡ Some x
+pub stand_first : (d : Draft) (v : ℕ) (x : OpenVertex) (xs : List OpenVertex) → StandAt d v (x ∷ xs)
+    → slice_get d.vertices v ≡ Some x
 stand_first d v x xs h = let place : v ≡ v + 0 = omega arith in ap (slice_get d.vertices) place ∙ h 0 (omega arith)
 
 module _ (bounded : Bool) (d : Draft) (clocks : ℕ) (row : ℕ → Row) (value : ℕ → Outs) (words : ℕ → ℕ → Words)
@@ -160,16 +164,20 @@ module _ (bounded : Bool) (d : Draft) (clocks : ℕ) (row : ℕ → Row) (value 
   comparison_is v (a ∷ address) (true ∷ ds) same stand =
       let place : v + suc (length ds) ≡ (v + 1) + length ds = omega arith in
       let pins = wire v ∷ a ∷ [] in
-      let here = gate_is (v + 1) OrNot pins (stand_first d (v + 1) (gate OrNot pins) (comparison (v + 1) address ds) stand) in
+      let here = gate_is (v + 1) OrNot pins
+      (stand_first d (v + 1) (gate OrNot pins) (comparison (v + 1) address ds) stand) in
       ap (λ u. value t u 0) place
-      ∙ comparison_is (v + 1) address ds (omega (arith, same)) (stand_rest d (v + 1) (gate OrNot pins) (comparison (v + 1) address ds) stand)
+      ∙ comparison_is (v + 1) address ds (omega (arith, same))
+      (stand_rest d (v + 1) (gate OrNot pins) (comparison (v + 1) address ds) stand)
       ∙ ap (λ x. compares x (map (sees value t) address) ds) (here ∙ ap (λ x. x || not (sees value t a)) (wire_is v))
   comparison_is v (a ∷ address) (false ∷ ds) same stand =
       let place : v + suc (length ds) ≡ (v + 1) + length ds = omega arith in
       let pins = wire v ∷ a ∷ [] in
-      let here = gate_is (v + 1) AndNot pins (stand_first d (v + 1) (gate AndNot pins) (comparison (v + 1) address ds) stand) in
+      let here = gate_is (v + 1) AndNot pins
+      (stand_first d (v + 1) (gate AndNot pins) (comparison (v + 1) address ds) stand) in
       ap (λ u. value t u 0) place
-      ∙ comparison_is (v + 1) address ds (omega (arith, same)) (stand_rest d (v + 1) (gate AndNot pins) (comparison (v + 1) address ds) stand)
+      ∙ comparison_is (v + 1) address ds (omega (arith, same))
+      (stand_rest d (v + 1) (gate AndNot pins) (comparison (v + 1) address ds) stand)
       ∙ ap (λ x. compares x (map (sees value t) address) ds) (here ∙ ap (λ x. x && not (sees value t a)) (wire_is v))
 
   tests_say : (v : ℕ) (address : List (Option Source)) (ds : List Bool) → length address ≡ length ds
@@ -183,9 +191,11 @@ module _ (bounded : Bool) (d : Draft) (clocks : ℕ) (row : ℕ → Row) (value 
       let place : v + suc (length ds) - 1 ≡ v + length ds = omega arith in
       let here = gate_is v Not (a ∷ []) (stand_first d v (gate Not (a ∷ [])) (comparison v address ds) stand) in
       ap (λ u. value t u 0) place
-      ∙ comparison_is v address ds (omega (arith, same)) (stand_rest d v (gate Not (a ∷ [])) (comparison v address ds) stand)
+      ∙ comparison_is v address ds (omega (arith, same))
+      (stand_rest d v (gate Not (a ∷ [])) (comparison v address ds) stand)
       ∙ ap (λ x. compares x (map (sees value t) address) ds) here
-  tests_say v (a ∷ address) (false ∷ ds) same some stand = tests_say v address ds (omega (arith, same)) (omega (arith, some)) stand
+  tests_say v (a ∷ address) (false ∷ ds) same some stand = tests_say v address ds (omega (arith, same))
+      (omega (arith, some)) stand
 
   -- the last gate is 1 exactly where the address is below the size
   pub tests_are : (v size : ℕ) (address : List (Option Source)) → 0 < size → size < 2 ^ length address

@@ -1,11 +1,11 @@
 -- Drafts whose registers are several.
-use Rattle.std.proofs.Common.{◌≡◌, ℕ, zero, suc, ◌+◌, ◌-◌, ◌*◌, ◌<◌, ◌≤◌, false, List, [], ◌∷◌, length, map, take, refl, sym, ap, ap₂, ◌∙◌, inl, inr, arith}
+use Rattle.std.proofs.Common.{◌≡◌, ℕ, suc, ◌+◌, ◌-◌, ◌*◌, ◌<◌, ◌≤◌, false, List, [], ◌∷◌, length, map, take, refl, sym, ap, ap₂, ◌∙◌, inl, inr, arith}
 use Rattle.std.specs.Prelude.{pos, ◌-ℤ◌, slice_get, option_map, Option, Some, None, if◌then◌else◌, nat_lt}
 use Rattle.std.specs.List.{count_by}
 use Rattle.std.proofs.lemmas.Bool.{cases_lt}
 use Rattle.std.proofs.lemmas.Bool.Decides.{nat_tests}
 use Rattle.std.proofs.lemmas.List.{length-map}
-use Rattle.std.proofs.lemmas.Option.{none-some, same_Some, slice_get-map}
+use Rattle.std.proofs.lemmas.Option.{slice_get-map}
 use Rattle.cs_graph.specs.declared.edge.Edge.{Edge}
 use Rattle.cs_graph.specs.declared.graph.Graph.{Graph}
 use Rattle.cs_graph.specs.declared.source.Driver.{Driver}
@@ -47,7 +47,8 @@ edge_slowed : (c : ℕ) (o : Option Edge) → edge_source (option_map (slow_edge
 edge_slowed c None = refl
 edge_slowed c (Some d) = refl
 
-feed_slowed : (c : ℕ) (edges : List Edge) (f : Feed) → feed_source (map (slow_edge c) edges) f ≡ slow_pin c (feed_source edges f)
+feed_slowed : (c : ℕ) (edges : List Edge) (f : Feed)
+    → feed_source (map (slow_edge c) edges) f ≡ slow_pin c (feed_source edges f)
 feed_slowed c edges (Tied b) = refl
 feed_slowed c edges (Along e) = ap edge_source (slice_get-map (slow_edge c) edges e) ∙ edge_slowed c (slice_get edges e)
 
@@ -118,7 +119,8 @@ module _ (c k : ℕ) (below : k < c) (value : ℕ → Outs) (count : ℕ) where
         | inr after ↦
             let m = n - w in
             let few : m + w ≡ n = omega (arith, after) in
-            ap (carried_from (slow_driver c s) value) (at_now (n * c + k) (w * c) (m * c + k) (slow_now m w c k ∙ ap (λ t. t * c + k) few))
+            ap (carried_from (slow_driver c s) value)
+            (at_now (n * c + k) (w * c) (m * c + k) (slow_now m w c k ∙ ap (λ t. t * c + k) few))
             ∙ sym (context_in m s.from s.output in_range)
             ∙ sym (ap (carried_from s context) (at_now n w m few))
       ]

@@ -16,16 +16,19 @@ use Rattle.cs_bank.proofs.BankWords.{bank_words}
 abbrev pub entry_at : List (Option (List Image)) → ℕ → Option (List Image)
 entry_at entries i = get_or entries i None
 
-pub get_entry : (entries : List (Option (List Image))) (i : ℕ) → i < length entries → slice_get entries i ≡ Some (entry_at entries i)
+pub get_entry : (entries : List (Option (List Image))) (i : ℕ) → i < length entries
+    → slice_get entries i ≡ Some (entry_at entries i)
 get_entry entries i h = slice_get-get_or entries i None h
 
-pub get_with_entry : (f : Memory → Option (List Image) → Memory) (ms : List Memory) (entries : List (Option (List Image)))
+pub get_with_entry : (f : Memory → Option (List Image) → Memory) (ms : List Memory)
+    (entries : List (Option (List Image)))
     (i : ℕ) (m : Memory) → length entries ≡ length ms → slice_get ms i ≡ Some m
     → slice_get (with_entries f ms entries) i ≡ Some (f m (entry_at entries i))
 get_with_entry f [] entries i m same found = absurd (none-some m found)
 get_with_entry f (n ∷ ms) [] i m same found = absurd (omega (arith, same))
 get_with_entry f (n ∷ ms) (e ∷ entries) zero m same found = ap (λ x. Some (f x e)) (same_Some n m found)
-get_with_entry f (n ∷ ms) (e ∷ entries) (suc i) m same found = get_with_entry f ms entries i m (omega (arith, same)) found
+get_with_entry f (n ∷ ms) (e ∷ entries) (suc i) m same found = get_with_entry f ms entries i m (omega (arith, same))
+    found
 
 pub get_without : (f : Memory → Option (List Image) → Memory) (ms : List Memory) (entries : List (Option (List Image)))
     (i : ℕ) → slice_get ms i ≡ None → slice_get (with_entries f ms entries) i ≡ None
@@ -102,14 +105,16 @@ length-words (suc count) width start = ap suc (length-words count width (drop wi
 
 words_over : (n more width : ℕ) (s rest : List Bool) → length s ≡ n * width
     → words_from (n + more) width (s ++ rest) ≡ words_from n width s ++ words_from more width rest
-words_over zero more width [] rest h = let place : 0 + more ≡ more = omega arith in ap (λ m. words_from m width rest) place
+words_over zero more width [] rest h = let place : 0 + more ≡ more = omega arith in ap (λ m. words_from m width rest)
+    place
 words_over zero more width (x ∷ s) rest h = absurd (omega arith)
 words_over (suc n) more width s rest h =
     let place : suc n + more ≡ suc (n + more) = omega arith in
     let enough : width ≤ length s = omega arith in
     ap (λ m. words_from m width (s ++ rest)) place
     ∙ ap₂ (λ x xs. x ∷ xs) (take_within width s rest enough)
-    (ap (words_from (n + more) width) (drop_within width s rest enough) ∙ words_over n more width (drop width s) rest (omega (arith, length-drop width s)))
+    (ap (words_from (n + more) width) (drop_within width s rest enough)
+    ∙ words_over n more width (drop width s) rest (omega (arith, length-drop width s)))
 
 bank_of_starts : (f : ℕ → List Bool) (n width : ℕ) → ((k : ℕ) → length (f k) ≡ n * width) → (c a k : ℕ) → k < c
     → bank_words n k (words_from (c * n) width (flat_map f (range_with_len a c))) ≡ words_from n width (f (a + k))
@@ -132,13 +137,15 @@ bank_of_starts f n width long (suc c) a (suc k) below =
     let rest = flat_map f (range_with_len (a + 1) c) in
     ap (λ m. bank_words n (suc k) (words_from m width (f a ++ rest))) place
     ∙ ap (bank_words n (suc k)) (words_over n (c * n) width (f a) rest (long a))
-    ∙ ap (take n) (drop_past (words_from n width (f a)) (words_from (c * n) width rest) (suc k * n) (k * n) (omega (arith, many)))
+    ∙ ap (take n) (drop_past (words_from n width (f a)) (words_from (c * n) width rest) (suc k * n) (k * n)
+    (omega (arith, many)))
     ∙ bank_of_starts f n width long c (a + 1) k (omega arith)
     ∙ ap (λ i. words_from n width (f i)) next
 
 pub bank_start : (c k : ℕ) (m : Memory) (entry : Option (List Image)) → IsWhole m → length m.start ≡ m.words * m.width
     → FitsMemory c m entry → k < c
-    → bank_words m.words k (words_from (c * m.words) m.width (banked_start c m entry)) ≡ start_words (Some (memory_in k m entry))
+    → bank_words m.words k (words_from (c * m.words) m.width (banked_start c m entry)) ≡ start_words
+    (Some (memory_in k m entry))
 bank_start c k m entry whole long fits below =
     let here : 0 + k ≡ k = omega arith in
     bank_of_starts (λ j. start_in j m entry) m.words m.width (λ j. length-start c j m entry whole long fits) c 0 k below

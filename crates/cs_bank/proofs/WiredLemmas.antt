@@ -102,7 +102,8 @@ module _ (g : Graph) (is : IsMachine g) where
             after = λ f d high here. from_next v i d (at.after f d (omega (arith, high)) here) (λ to same.
                 let feeds = is.well_formed.fed.feeds f d here in
                 let y = same_Some x feeds.0 (sym found ∙ ap (slice_get g.vertices) to ∙ feeds.1) in
-                let tied = sym pin ∙ ap (slice_get x.pins) same ∙ ap (λ (z : Vertex). slice_get z.pins d.pin) y ∙ feeds.2 in
+                let tied = sym pin ∙ ap (slice_get x.pins) same ∙ ap (λ (z : Vertex). slice_get z.pins d.pin) y
+                ∙ feeds.2 in
                 not_tied b f (same_Some (Tied b) (Along f) tied));
           };
         }
@@ -118,7 +119,8 @@ module _ (g : Graph) (is : IsMachine g) where
             | inl more ↦
                 let within = slice_get_within g.edges f d here in
                 let first = there g.edges e (omega (arith, more, within)) in
-                absurd (not_between v i first.0 d to at_pin (at.after e first.0 (omega arith) first.1) (is.numbered e f first.0 d more first.1 here))
+                absurd (not_between v i first.0 d to at_pin (at.after e first.0 (omega arith) first.1)
+                (is.numbered e f first.0 d more first.1 here))
             | inr most ↦ omega (arith, least, most)
           ]
         ]
@@ -136,7 +138,8 @@ module _ (g : Graph) (is : IsMachine g) where
         record {
           feed = ap (feed_of e) source ∙ ap Along same;
           edge = ap₂ (λ s n. edge_into v i s ++ drop n g.edges) source next
-              ∙ ap₂ (λ t p. record d { to = t; pin = p; weight = length d.contents } ∷ drop (e + 1) g.edges) (sym to) (sym at_pin)
+              ∙ ap₂ (λ t p. record d { to = t; pin = p; weight = length d.contents } ∷ drop (e + 1) g.edges) (sym to)
+              (sym at_pin)
               ∙ ap (λ w. record d { weight = w } ∷ drop (e + 1) g.edges) held
               ∙ sym (drop_at g.edges e d (ap (slice_get g.edges) same ∙ here));
           next = record {
@@ -145,9 +148,14 @@ module _ (g : Graph) (is : IsMachine g) where
               | inr least ↦
                   let k_is : k ≡ f = omega (arith, low, next, least, same) in
                   let y_is = same_Some d y (sym here ∙ ap (slice_get g.edges) (sym k_is) ∙ there) in
-                  inr (sym (ap (λ (z : Edge). z.to) y_is) ∙ to, let pin_is = sym (ap (λ (z : Edge). z.pin) y_is) ∙ at_pin in omega (arith, pin_is))
+                  inr (
+                    sym (ap (λ (z : Edge). z.to) y_is) ∙ to,
+                    let pin_is = sym (ap (λ (z : Edge). z.pin) y_is)
+                        ∙ at_pin in omega (arith, pin_is),
+                  )
             ];
-            after = λ k y high there. after_here v i d y to at_pin (is.numbered f k d y (omega (arith, high, next, same)) here there);
+            after = λ k y high there. after_here v i d y to at_pin
+                (is.numbered f k d y (omega (arith, high, next, same)) here there);
           };
         }
 
@@ -177,17 +185,21 @@ module _ (g : Graph) (is : IsMachine g) where
       let one = pin_again v i e x found at f (ap (slice_get x.pins) (sym first) ∙ sym (pins 0)) in
       let s = feed_source g.edges f in
       let ss = map (feed_source g.edges) fs in
-      let rest = pins_again v x found (i + 1) (e + driven s) fs (λ k. let place : i + suc k ≡ (i + 1) + k = omega arith in pins (suc k) ∙ ap (slice_get x.pins) place) one.next in
+      let rest = pins_again v x found (i + 1) (e + driven s) fs
+      (λ k. let place : i + suc k ≡ (i + 1) + k = omega arith in pins (suc k) ∙ ap (slice_get x.pins) place)
+      one.next in
       let count = sum_by-cons driven s ss in
       let total : e + sum_by driven (s ∷ ss) ≡ (e + driven s) + sum_by driven ss = omega (arith, count) in
       let many : (i + 1) + length fs ≡ i + length (f ∷ fs) = omega arith in
       record {
         feeds = ap₂ (λ y ys. y ∷ ys) one.feed rest.feeds;
         edges = ap (λ n. (edge_into v i s ++ edges_into v (i + 1) ss) ++ drop n g.edges) total
-            ∙ append_assoc (edge_into v i s) (edges_into v (i + 1) ss) (drop ((e + driven s) + sum_by driven ss) g.edges)
+            ∙ append_assoc (edge_into v i s) (edges_into v (i + 1) ss)
+            (drop ((e + driven s) + sum_by driven ss) g.edges)
             ∙ ap (λ es. edge_into v i s ++ es) rest.edges
             ∙ one.edge;
-        next = subst (λ n. IsNext g.edges n v (i + length (f ∷ fs))) (sym total) (subst (λ j. IsNext g.edges ((e + driven s) + sum_by driven ss) v j) many rest.next);
+        next = subst (λ n. IsNext g.edges n v (i + length (f ∷ fs))) (sym total)
+            (subst (λ j. IsNext g.edges ((e + driven s) + sum_by driven ss) v j) many rest.next);
       }
 
   -- ---- all vertices
@@ -208,7 +220,8 @@ module _ (g : Graph) (is : IsMachine g) where
     after = λ f d high there. from_vertex v (0 + length x.pins) d (at.after f d high there) (λ to.
         let feeds = is.well_formed.fed.feeds f d there in
         let y = same_Some x feeds.0 (sym found ∙ ap (slice_get g.vertices) to ∙ feeds.1) in
-        let within = slice_get_within x.pins d.pin (Along f) (ap (λ (z : Vertex). slice_get z.pins d.pin) y ∙ feeds.2) in
+        let within = slice_get_within x.pins d.pin (Along f) (ap (λ (z : Vertex). slice_get z.pins d.pin) y
+        ∙ feeds.2) in
         omega (arith, within));
   }
 
@@ -226,20 +239,27 @@ module _ (g : Graph) (is : IsMachine g) where
   vertices_again v e (x ∷ xs) rows at =
       let first : v + 0 ≡ v = omega arith in
       let found = ap (slice_get g.vertices) (sym first) ∙ sym (rows 0) in
-      let one = pins_again v x found 0 e x.pins (λ k. let place : k ≡ 0 + k = omega arith in ap (slice_get x.pins) place) at in
+      let one = pins_again v x found 0 e x.pins
+      (λ k. let place : k ≡ 0 + k = omega arith in ap (slice_get x.pins) place) at in
       let ss = map (feed_source g.edges) x.pins in
       let next = next_vertex v (e + sum_by driven ss) x found one.next in
-      let rest = vertices_again (v + 1) (e + sum_by driven ss) xs (λ k. let place : v + suc k ≡ (v + 1) + k = omega arith in rows (suc k) ∙ ap (slice_get g.vertices) place) next in
-      let count = sum_by-cons (λ (y : OpenVertex). sum_by driven y.pins) (wired_vertex g.edges x) (map (wired_vertex g.edges) xs) in
+      let rest = vertices_again (v + 1) (e + sum_by driven ss) xs
+      (λ k. let place : v + suc k ≡ (v + 1) + k = omega arith in rows (suc k) ∙ ap (slice_get g.vertices) place)
+      next in
+      let count = sum_by-cons (λ (y : OpenVertex). sum_by driven y.pins) (wired_vertex g.edges x)
+      (map (wired_vertex g.edges) xs) in
       let total : e + edge_counts (x ∷ xs) ≡ (e + sum_by driven ss) + edge_counts xs = omega (arith, count) in
       let many : (v + 1) + length xs ≡ v + length (x ∷ xs) = omega arith in
       record {
         vertices = ap₂ (λ y ys. record { kind = x.kind; pins = y } ∷ ys) one.feeds rest.vertices;
-        edges = ap (λ n. (edges_into v 0 ss ++ edges_from (v + 1) (map (wired_vertex g.edges) xs)) ++ drop n g.edges) total
-            ∙ append_assoc (edges_into v 0 ss) (edges_from (v + 1) (map (wired_vertex g.edges) xs)) (drop ((e + sum_by driven ss) + edge_counts xs) g.edges)
+        edges = ap (λ n. (edges_into v 0 ss ++ edges_from (v + 1) (map (wired_vertex g.edges) xs)) ++ drop n g.edges)
+            total
+            ∙ append_assoc (edges_into v 0 ss) (edges_from (v + 1) (map (wired_vertex g.edges) xs))
+            (drop ((e + sum_by driven ss) + edge_counts xs) g.edges)
             ∙ ap (λ es. edges_into v 0 ss ++ es) rest.edges
             ∙ one.edges;
-        next = subst (λ n. IsNext g.edges n (v + length (x ∷ xs)) 0) (sym total) (subst (λ u. IsNext g.edges ((e + sum_by driven ss) + edge_counts xs) u 0) many rest.next);
+        next = subst (λ n. IsNext g.edges n (v + length (x ∷ xs)) 0) (sym total)
+            (subst (λ u. IsNext g.edges ((e + sum_by driven ss) + edge_counts xs) u 0) many rest.next);
       }
 
   -- ---- the machine
@@ -275,7 +295,8 @@ module _ (g : Graph) (is : IsMachine g) where
   -- built of its own sources, a machine is what it was
   pub built_again : built (wired g) ≡ g
   built_again =
-      let all = vertices_again 0 0 g.vertices (λ k. let place : k ≡ 0 + k = omega arith in ap (slice_get g.vertices) place) starts_next in
+      let all = vertices_again 0 0 g.vertices
+      (λ k. let place : k ≡ 0 + k = omega arith in ap (slice_get g.vertices) place) starts_next in
       let many : 0 + length g.vertices ≡ length g.vertices = omega arith in
       let rest = none_after g.edges (0 + edge_counts g.vertices) (0 + length g.vertices) refl all.next many in
       let edges = sym (append_none (edges_from 0 (wired g).vertices))

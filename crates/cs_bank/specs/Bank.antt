@@ -21,7 +21,8 @@ use Rattle.cs_bank.specs.Wired.{wired}
 abbrev pub write_pins : List (Option Source) → ℕ → Option Memory → List (Option Source) → List (Option Source)
 write_pins context v None pins = pins
 write_pins context v (Some m) pins =
-    take m.abits pins ++ context ++ take m.width (drop m.abits pins) ++ enable_pins v m (drop m.width (drop m.abits pins))
+    take m.abits pins ++ context ++ take m.width (drop m.abits pins) ++ enable_pins v m
+    (drop m.width (drop m.abits pins))
 
 -- how many vertices guard one port of a memory, 0 where there is none
 abbrev pub guard_count_of : Option Memory → ℕ

@@ -4,3 +4,4 @@ pub mod Guards
 pub mod Starts
 pub mod Bank
 pub mod Alone
+pub mod BankFaults
