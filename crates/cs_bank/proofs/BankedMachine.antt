@@ -22,7 +22,7 @@ use Rattle.cs_bank.specs.Bank.{IsWhole, banked, banked_pins, banked_vertex, firs
 use Rattle.cs_bank.specs.ContextBits.{context_bit, context_bits, context_pins, context_vertices, wire}
 use Rattle.cs_bank.specs.Guards.{guards}
 use Rattle.cs_bank.specs.Wired.{edge_source, feed_source, wired, wired_vertex}
-use Rattle.cs_bank.proofs.Answered.{get_kind, ports_of}
+use Rattle.cs_bank.proofs.Answered.{get_kind, of_machine, ports_of}
 use Rattle.cs_bank.proofs.BankedOrder.{HasDraftOrder, IsRead, banked_order, is_writer, order_built, same_driver}
 use Rattle.cs_bank.proofs.BankedPins.{AllRead, back_guards, both_read, get_both, wires_read, write_read}
 use Rattle.cs_bank.proofs.BankedPlaces.{HasPorts, in_filter, write_pins_are}
@@ -224,9 +224,9 @@ module _ (g : Graph) (is : IsMachine g) where
 
     -- a banked machine has all its pins fed
     pub all_fed : AreFed (banked c entries (wired g)).vertices
-    all_fed = banked_fed c entries (wired g) (ports_of g is) some_words wired_fed
+    all_fed = banked_fed c entries (wired g) (ports_of g (of_machine g is)) some_words wired_fed
 
     -- and an order
     pub has_order : 0 < c → HasOrder (built (banked c entries (wired g)))
     has_order several = order_built (banked c entries (wired g))
-        (banked_order c entries (wired g) wired_order (ports_of g is) several some_words wired_reads)
+        (banked_order c entries (wired g) wired_order (ports_of g (of_machine g is)) several some_words wired_reads)

@@ -132,7 +132,7 @@ same_memories k c below (m ∷ ms) (shape ∷ shapes) same [] count are = absurd
 same_memories k c below (m ∷ ms) (shape ∷ shapes) same (entry ∷ entries) count are =
     let first : map length m.words ≡ replicate (word_count shape) shape.width = cc in
     let rest : map (λ (m : MemoryWords). map length m.words) ms
-        ≡ map (λ (s : MemShape). replicate (word_count s) s.width) shapes = cc in
+    ≡ map (λ (s : MemShape). replicate (word_count s) s.width) shapes = cc in
     ap₂ (λ x xs. x ∷ xs) (same_memory k c m shape first below entry are.0)
     (same_memories k c below ms shapes rest entries (omega (arith, count)) are.1)
 

@@ -1,8 +1,7 @@
 -- The graph of a netlist for several contexts answers each of them as the netlist alone does.
 use Rattle.std.proofs.Common.{ℕ, true, List, subst}
 use Rattle.cs_base.specs.Parts.{part}
-use Rattle.cs_bank.proofs.Answered.{answers_each_alone}
-use Rattle.cs_graph.specs.Invariant.{IsWithinLimits}
+use Rattle.cs_bank.proofs.Answered.{FitsTogether, answers_alone}
 use Rattle.cs_graph.specs.Run.{RunsWith}
 use Rattle.cs_interleave.specs.Interleaved.{interleaved}
 use Rattle.cs_interleave.specs.Isolation.{IsolatesContexts}
@@ -10,7 +9,8 @@ use Rattle.cs_interleave.proofs.Bankable.{can_bank}
 use Rattle.cs_interleave.proofs.ContextStarts.{start_of_context}
 use Rattle.cs_lower.specs.Lowered.{lowered}
 use Rattle.cs_lower.proofs.KeepsAnswers.{run_answers}
-use Rattle.cs_lower.proofs.LoweredMachine.{lowered_machine}
+use Rattle.cs_lower.proofs.DraftOutputs.{lowered_well_formed}
+use Rattle.cs_lower.proofs.LoweredMachine.{lowered_memories, lowered_pins}
 use Rattle.cs_net.specs.declared.images.Images.{Images}
 use Rattle.cs_net.specs.declared.state.MemoryWords.{MemoryWords}
 use Rattle.cs_net.specs.Contexts.{AreImagesFor, of_context, with_images}
@@ -41,13 +41,20 @@ answers_with net ms from rows answer a = record {
 
 -- ---- contexts
 
-module _ (net : Net) (w : IsWellFormed net) (images : Images) (c : ℕ) (are : AreImagesFor net c images)
-    (limits : IsWithinLimits (lowered net)) where
+-- the graph of a netlist is such as can be slowed and banked, whatever the limits
+lowered_fits : (net : Net) → IsWellFormed net → FitsTogether (lowered net)
+lowered_fits net w = record {
+  well_formed = lowered_well_formed net w;
+  pins = lowered_pins net w;
+  memories = lowered_memories net w;
+}
+
+module _ (net : Net) (w : IsWellFormed net) (images : Images) (c : ℕ) (are : AreImagesFor net c images) where
   -- the graph of a netlist for several contexts isolates them
   pub isolates_contexts : IsolatesContexts net images c (interleaved net images c)
   isolates_contexts k rows outputs below r =
       let own : Net = of_context net images k in
-      let bare = answers_each_alone (lowered net) (lowered_machine net w limits) c images.of
+      let bare = answers_alone (lowered net) (lowered_fits net w) c images.of
       (can_bank net w images c are) k rows outputs below r in
       let graph : RunsWith true (lowered own) (part k c rows) (part k c outputs) =
       subst (λ g. RunsWith true g (part k c rows) (part k c outputs))

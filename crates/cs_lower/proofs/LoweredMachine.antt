@@ -4,11 +4,12 @@ use Rattle.std.proofs.Common.{◌≡◌, ℕ, List, [], ◌++◌, length, Some, 
 use Rattle.std.proofs.lemmas.List.{length-map}
 use Rattle.std.proofs.lemmas.Simd.{map-map}
 use Rattle.cs_graph.specs.declared.source.OpenVertex.{OpenVertex}
+use Rattle.cs_graph.specs.declared.vertex.Vertex.{Vertex}
 use Rattle.cs_graph.specs.declared.vertex.VertexKind.TheVariants.{Host}
 use Rattle.cs_graph.specs.Draft.{IsDraft, IsWithinLimits, open_kinds}
-use Rattle.cs_graph.specs.Invariant.{HasHost, HasMemories, HasMemory, IsMachine, IsWithinLimits as IsGraphWithinLimits}
+use Rattle.cs_graph.specs.Invariant.{HasHost, HasMemories, HasMemory, IsMachine, IsWithinLimits as IsGraphWithinLimits, kinds}
 use Rattle.cs_graph.specs.Kinds.{pin_count}
-use Rattle.cs_graph.proofs.BuiltLemmas.{built_machine, length_edges_from, length_vertices_from, weight_from}
+use Rattle.cs_graph.proofs.BuiltLemmas.{became, built_machine, kinds_from, length_edges_from, length_vertices_from, weight_from}
 use Rattle.cs_net.specs.Invariant.{IsWellFormed}
 use Rattle.cs_net.specs.Netlist.{Net}
 use Rattle.cs_net.proofs.MemoryPlaces.{map_at}
@@ -88,6 +89,20 @@ module _ (net : Net) (w : IsWellFormed net) where
     ports = λ v kind at. next_at [] (kinds_of all) (all_next net) v kind at;
     reads = few_outputs net w;
   }
+
+  -- ---- the graph, whatever the limits
+
+  -- each vertex of the graph has the pins of its kind
+  pub lowered_pins : (v : ℕ) (x : Vertex) → slice_get (lowered net).vertices v ≡ Some x
+      → length x.pins ≡ pin_count (lowered net).memories x.kind
+  lowered_pins v x found =
+      let was = became 0 (draft_of net).vertices v x found in
+      was.count ∙ vertex_pins v was.old was.given ∙ ap (pin_count (draft_of net).memories) (sym was.kind)
+
+  -- and the memories fit its vertices
+  pub lowered_memories : HasMemories (lowered net).memories (kinds (lowered net).vertices)
+  lowered_memories =
+      subst (HasMemories (draft_of net).memories) (draft_kinds ∙ sym (kinds_from 0 (draft_of net).vertices)) all_memories
 
   -- ---- the draft
 
