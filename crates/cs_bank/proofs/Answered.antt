@@ -19,7 +19,7 @@ use Rattle.cs_graph.specs.declared.vertex.Feed.TheVariants.{Edge as Along, Tied}
 use Rattle.cs_graph.specs.declared.vertex.Vertex.{Vertex}
 use Rattle.cs_graph.specs.declared.vertex.VertexKind.TheVariants.{Read, Write}
 use Rattle.cs_graph.specs.Draft.{Draft, built, open_kinds}
-use Rattle.cs_graph.specs.Invariant.{HasMemory, IsMachine, IsNextPort, kinds}
+use Rattle.cs_graph.specs.Invariant.{HasMemories, HasMemory, IsMachine, IsNextPort, IsWellFormed, kinds}
 use Rattle.cs_graph.specs.Kinds.{address_bits, is_write_of, pin_count, word_bits}
 use Rattle.cs_graph.specs.Run.{Outs, Row, RunsFor, RunsWith, memory_after, row_of, seen}
 use Rattle.cs_graph.specs.Slow.{slow}
@@ -36,7 +36,19 @@ use Rattle.cs_bank.proofs.Lists.{there, was_in}
 use Rattle.cs_bank.proofs.SlowDrafts.{slow_draft, wired_slow}
 use Rattle.cs_bank.proofs.StartLemmas.{entry_at, get_entry}
 
--- ---- a machine's wired form can be banked
+-- ---- what is banked
+
+-- a well-formed graph whose vertices have the pins of their kinds, and the memories that they name: as a machine, but
+-- without limits
+pub record FitsTogether (g : Graph) : Type 0 where
+  pub well_formed : IsWellFormed g
+  pub pins : (v : ℕ) (x : Vertex) → slice_get g.vertices v ≡ Some x → length x.pins ≡ pin_count g.memories x.kind
+  pub memories : HasMemories g.memories (kinds g.vertices)
+
+pub of_machine : (g : Graph) → IsMachine g → FitsTogether g
+of_machine g is = record { well_formed = is.well_formed; pins = is.pins; memories = is.memories }
+
+-- ---- its wired form can be banked
 
 pub kinds_wired : (edges : List Edge) (xs : List Vertex) → open_kinds (map (wired_vertex edges) xs) ≡ kinds xs
 kinds_wired edges [] = refl
@@ -51,7 +63,7 @@ above None = 0
 above (Some (TiedTo b)) = 0
 above (Some (Driven k)) = suc k.from
 
-module _ (g : Graph) (is : IsMachine g) where
+module _ (g : Graph) (is : FitsTogether g) where
   module _ (v : ℕ) (x : Vertex) (found : slice_get g.vertices v ≡ Some x) where
     read_pins : (memory port : ℕ) → x.kind ≡ Read memory port
         → (m : Memory) × (slice_get g.memories memory ≡ Some m) × (length x.pins ≡ m.abits)
@@ -169,7 +181,7 @@ module _ (g : Graph) (none : g.memories ≡ []) where
 
 -- ---- with memories
 
-module _ (g : Graph) (is : IsMachine g) (c : ℕ) (entries : List (Option (List Image)))
+module _ (g : Graph) (is : FitsTogether g) (c : ℕ) (entries : List (Option (List Image)))
     (can : CanBankDraft c entries (wired g)) (k : ℕ)
     (below : k < c) (rows outputs : List Row)
     (r : RunsWith false (built (banked c entries (slow_draft c (wired g)))) rows outputs) where
@@ -222,8 +234,8 @@ module _ (g : Graph) (is : IsMachine g) (c : ℕ) (entries : List (Option (List 
 
 -- ---- all
 
-answers_by : (g : Graph) → IsMachine g → (c : ℕ) (entries : List (Option (List Image))) → CanBank c entries (slow c g)
-    → (ms : List Memory) → g.memories ≡ ms → AnswersEachAlone c entries g (bank_by ms c entries (slow c g))
+answers_by : (g : Graph) → FitsTogether g → (c : ℕ) (entries : List (Option (List Image)))
+    → CanBank c entries (slow c g) → (ms : List Memory) → g.memories ≡ ms → AnswersEachAlone c entries g (bank_by ms c entries (slow c g))
 answers_by g is c entries can [] none k rows outputs below r =
     let all = answers_either (slow c g) none rows outputs r in
     subst (λ own. RunsWith true own (part k c rows) (part k c outputs)) (sym (own_is g none k entries))
@@ -232,7 +244,12 @@ answers_by g is c entries can (m ∷ ms) some k rows outputs below r =
     own_answers g is c entries (can_of g is c entries can) k below rows outputs
     (subst (λ d. RunsWith false (built (banked c entries d)) rows outputs) (wired_slow c g) r)
 
--- a machine that is slowed and banked answers each context as the machine alone does
+-- a graph that is slowed and banked answers each context as the graph alone does
+pub answers_alone : (g : Graph) → FitsTogether g → (c : ℕ) (entries : List (Option (List Image)))
+    → CanBank c entries (slow c g) → AnswersEachAlone c entries g (bank c entries (slow c g))
+answers_alone g is c entries can = answers_by g is c entries can g.memories refl
+
+-- and so does each machine
 pub answers_each_alone : (g : Graph) → IsMachine g → (c : ℕ) (entries : List (Option (List Image)))
     → CanBank c entries (slow c g) → AnswersEachAlone c entries g (bank c entries (slow c g))
-answers_each_alone g is c entries can = answers_by g is c entries can g.memories refl
+answers_each_alone g is = answers_alone g (of_machine g is)

@@ -25,7 +25,7 @@ use Rattle.cs_bank.specs.BankFaults.{bank_fault, bank_fault_by, draft_fault}
 use Rattle.cs_bank.specs.ContextBits.{context_bit, context_bits, context_pins, context_vertices, wire}
 use Rattle.cs_bank.specs.Guards.{guards}
 use Rattle.cs_bank.specs.Wired.{edge_source, feed_source, wired, wired_vertex}
-use Rattle.cs_bank.proofs.Answered.{get_kind, kinds_wired, ports_of}
+use Rattle.cs_bank.proofs.Answered.{get_kind, kinds_wired, of_machine, ports_of}
 use Rattle.cs_bank.proofs.BankedDrafts.{are_few, banked_host, banked_memories, banked_pin_counts}
 use Rattle.cs_bank.proofs.BankedOrder.{HasDraftOrder, IsRead, banked_order, is_writer, order_built, same_driver}
 use Rattle.cs_bank.proofs.BankedOutputs.{banked_outputs}
@@ -230,12 +230,12 @@ module _ (g : Graph) (is : IsMachine g) where
 
     -- a banked machine has all its pins fed
     pub all_fed : AreFed (banked c entries (wired g)).vertices
-    all_fed = banked_fed c entries (wired g) (ports_of g is) some_words wired_fed
+    all_fed = banked_fed c entries (wired g) (ports_of g (of_machine g is)) some_words wired_fed
 
     -- and an order
     pub has_order : 0 < c → HasOrder (built (banked c entries (wired g)))
     has_order several = order_built (banked c entries (wired g))
-        (banked_order c entries (wired g) wired_order (ports_of g is) several some_words wired_reads)
+        (banked_order c entries (wired g) wired_order (ports_of g (of_machine g is)) several some_words wired_reads)
 
     wired_host : HasHost (open_kinds (wired g).vertices)
     wired_host = subst HasHost (sym (kinds_wired g.edges g.vertices)) is.host
@@ -271,8 +271,8 @@ module _ (g : Graph) (is : IsMachine g) where
           let within = are_few (banked c entries (wired g)) none in
           record {
             host = banked_host c entries (wired g) count wired_host;
-            pins = banked_pin_counts c entries (wired g) count (ports_of g is) wired_pins;
-            outputs = banked_outputs c entries (wired g) count (ports_of g is) some_words wired_outputs;
+            pins = banked_pin_counts c entries (wired g) count (ports_of g (of_machine g is)) wired_pins;
+            outputs = banked_outputs c entries (wired g) count (ports_of g (of_machine g is)) some_words wired_outputs;
             memories = banked_memories c entries (wired g) count several few whole fits within.memories wired_memories;
             limits = record { vertices = within.vertices; edges = within.edges; weight = within.weight };
           }

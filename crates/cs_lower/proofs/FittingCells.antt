@@ -1,6 +1,6 @@
 -- The vertices of cells fit, where memories have the sizes of their cells' shapes.
 use Rattle.std.specs.Prelude.{if◌then◌else◌, slice_get}
-use Rattle.std.proofs.Common.{◌≡◌, ℕ, zero, suc, ◌+◌, ◌*◌, ◌<◌, ◌≤◌, Bool, true, false, List, [], ◌∷◌, ◌++◌, length, map, Option, Some, None, codes, refl, sym, ap, ap₂, subst, ◌∙◌, arith, length-append}
+use Rattle.std.proofs.Common.{◌≡◌, ℕ, zero, suc, ◌+◌, ◌*◌, ◌<◌, ◌≤◌, Bool, true, false, List, [], ◌∷◌, ◌++◌, length, map, Option, Some, None, codes, refl, sym, ◌∙◌, arith, length-append}
 use Rattle.std.specs.List.{AllByRecursion, enumerate_from}
 use Rattle.std.proofs.lemmas.List.{length-map}
 use Rattle.cs_base.specs.declared.signal.Signal.{Signal}
@@ -10,14 +10,14 @@ use Rattle.cs_cells.specs.declared.gate.Kind.{Kind}
 use Rattle.cs_cells.specs.declared.memory.MemShape.{MemShape}
 use Rattle.cs_cells.specs.declared.memory.ReadShape.{ReadShape}
 use Rattle.cs_cells.specs.Gates.{pin_count, pin_name}
-use Rattle.cs_graph.specs.declared.vertex.VertexKind.TheVariants.{Gate, Read, Write}
+use Rattle.cs_graph.specs.declared.vertex.VertexKind.TheVariants.{Gate, Read}
 use Rattle.cs_graph.specs.Kinds.{address_bits, word_bits}
 use Rattle.cs_modules.specs.Pins.{count_from}
 use Rattle.cs_net.specs.declared.netlist.Cell.{Cell}
 use Rattle.cs_net.specs.Drivers.{bits_of, port_part, read_data, read_element, register_of, signal_of}
 use Rattle.cs_net.specs.Netlist.{Net}
 use Rattle.cs_net.proofs.PinWidths.{length-count_from}
-use Rattle.cs_lower.specs.Cells.{Datum, Placed, cell_parts, class_parts, data_parts, gate_parts, held_parts, memory_parts, read_parts, read_wires, write_parts, write_piece}
+use Rattle.cs_lower.specs.Cells.{Placed, cell_parts, class_parts, data_parts, gate_parts, held_parts, memory_parts, read_parts, read_wires, write_parts, write_piece}
 use Rattle.cs_lower.specs.Lowered.{draft_of}
 use Rattle.cs_lower.specs.Taps.{Parts, Piece, in_turn, of_signal, of_vertex, piece}
 use Rattle.cs_lower.specs.Wires.{parts_of}
@@ -209,7 +209,8 @@ CellHasSizes net c =
 
 memory_fits : (net : Net) (n memory : ℕ) (cell : Cell) (shape : Option MemShape)
     → ((s : MemShape) → shape ≡ Some s → HasSizes net memory cell s)
-    → StandsIn net n (memory_parts net n memory cell shape).pieces → PartsFit net n (memory_parts net n memory cell shape)
+    → StandsIn net n (memory_parts net n memory cell shape).pieces
+    → PartsFit net n (memory_parts net n memory cell shape)
 memory_fits net n memory cell None sizes stands = record { pieces = tt; wires = tt }
 memory_fits net n memory cell (Some shape) sizes stands = shaped_fits net memory cell shape (sizes shape refl) n stands
 
@@ -218,8 +219,8 @@ class_fits : (net : Net) (class : Class) (c : Placed)
     → StandsIn net n (class_parts net n class c).pieces → PartsFit net n (class_parts net n class c)
 class_fits net (GateClass kind) c sizes n stands = gate_fits net n c.cell kind stands
 class_fits net (Register kind) c sizes n stands =
-    register_fits net n (signal_of c.cell (codes "Q")) (register_of c.cell kind) (of_signal (signal_of c.cell (codes "D")))
-    tt stands
+    register_fits net n (signal_of c.cell (codes "Q")) (register_of c.cell kind)
+    (of_signal (signal_of c.cell (codes "D"))) tt stands
 class_fits net Memory c sizes n stands =
     memory_fits net n c.memory c.cell c.shape (λ s is. sizes s refl is) stands
 class_fits net Scope c sizes n stands = record { pieces = tt; wires = tt }

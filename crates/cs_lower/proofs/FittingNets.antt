@@ -1,19 +1,17 @@
 -- The vertices of a netlist fit, and what drives its bits is there.
 use Rattle.std.specs.Prelude.{slice_get}
-use Rattle.std.proofs.Common.{◌≡◌, ℕ, zero, suc, ◌+◌, ◌*◌, ◌<◌, ◌≤◌, List, [], ◌∷◌, length, map, get_or, Option, Some, None, codes, refl, sym, ap, subst, ◌∙◌, arith}
+use Rattle.std.proofs.Common.{◌≡◌, ℕ, zero, suc, ◌+◌, ◌*◌, ◌≤◌, List, [], ◌∷◌, length, map, Option, Some, None, codes, refl, ap, subst, ◌∙◌, arith}
 use Rattle.std.specs.List.{AllByRecursion, enumerate_from}
 use Rattle.std.proofs.lemmas.Option.{none-some, same_Some, slice_get_within}
 use Rattle.cs_base.specs.declared.signal.Signal.{Signal}
 use Rattle.cs_cells.specs.declared.class.Class.TheVariants.{Memory}
 use Rattle.cs_cells.specs.declared.memory.MemShape.{MemShape}
-use Rattle.cs_graph.specs.declared.memory.Memory.{Memory as GraphMemory}
 use Rattle.cs_graph.specs.declared.vertex.VertexKind.TheVariants.{Host, Input, Output}
 use Rattle.cs_graph.specs.Kinds.{address_bits, word_bits}
 use Rattle.cs_modules.specs.Memories.{shapes_in}
 use Rattle.cs_modules.specs.Pins.{width_at}
 use Rattle.cs_net.specs.declared.netlist.Cell.{Cell}
 use Rattle.cs_net.specs.declared.state.MemoryWords.{MemoryWords}
-use Rattle.cs_net.specs.Build.{places_from}
 use Rattle.cs_net.specs.Drivers.{bits_of, data_inputs, data_outputs}
 use Rattle.cs_net.specs.Invariant.{IsWellFormed}
 use Rattle.cs_net.specs.Netlist.{Net}
@@ -22,11 +20,11 @@ use Rattle.cs_net.proofs.MemoryFacts.{memory_count}
 use Rattle.cs_net.proofs.Members.{within_has}
 use Rattle.cs_net.proofs.PinWidths.{pin_is_wide}
 use Rattle.cs_lower.specs.Cells.{Placed, cell_parts, placed_cells}
-use Rattle.cs_lower.specs.Lowered.{draft_of, lowered, memory_of}
-use Rattle.cs_lower.specs.Taps.{Parts, Piece, Wire, both, from_vertex, in_turn, of_signal, piece}
+use Rattle.cs_lower.specs.Lowered.{draft_of, memory_of}
+use Rattle.cs_lower.specs.Taps.{Parts, Piece, Wire, from_vertex, in_turn, of_signal, piece}
 use Rattle.cs_lower.specs.Wires.{input_parts, output_parts, parts_of, port_parts}
-use Rattle.cs_lower.proofs.FittingCells.{CellHasSizes, HasSizes, cell_fits}
-use Rattle.cs_lower.proofs.FittingParts.{FitFrom, Fits, IsThere, PartsFit, fit_append, fit_both, fit_in_turn}
+use Rattle.cs_lower.proofs.FittingCells.{CellHasSizes, cell_fits}
+use Rattle.cs_lower.proofs.FittingParts.{FitFrom, Fits, IsThere, PartsFit, fit_both, fit_in_turn}
 use Rattle.cs_lower.proofs.MatchLists.{StandsIn}
 use Rattle.cs_lower.proofs.PlacedCells.{placed, placed_from, shape_at}
 use Rattle.cs_lower.proofs.SeenMemories.{memory_at}
@@ -104,7 +102,8 @@ module _ (net : Net) (w : IsWellFormed net) where
       (record { count = refl; there = tt; taps = tt; host = λ is. cc }, inputs_fit (v + 1) signals)
 
   inputs_there : (v : ℕ) (signals : List Signal) → StandsIn net v (map (λ s. piece Input []) signals)
-      → AllByRecursion (λ (x : Signal × Wire). IsThere net x.1) (map (λ e. (e.1, from_vertex e.0 0)) (enumerate_from v signals))
+      → AllByRecursion (λ (x : Signal × Wire). IsThere net x.1)
+      (map (λ e. (e.1, from_vertex e.0 0)) (enumerate_from v signals))
   inputs_there v [] stands = tt
   inputs_there v (s ∷ signals) stands =
       let rest : List Piece = map (λ s. piece Input []) signals in (
@@ -127,7 +126,8 @@ module _ (net : Net) (w : IsWellFormed net) where
       (record {
         pieces = (record { count = refl; there = tt; taps = tt; host = λ is. refl }, inputs_fit 1 (data_inputs net));
         wires = inputs_there 1 (data_inputs net)
-            (part_next (parts_of net).pieces 0 (piece Host []) (map (λ s. piece Input []) (data_inputs net)) (inputs_stand net));
+            (part_next (parts_of net).pieces 0 (piece Host []) (map (λ s. piece Input []) (data_inputs net))
+            (inputs_stand net));
       })
       (record { pieces = outputs_fit (0 + length (input_parts net).pieces) (data_outputs net); wires = tt })
 
@@ -137,7 +137,8 @@ module _ (net : Net) (w : IsWellFormed net) where
       (in_turn (cell_parts net) (length (port_parts net).pieces) (placed_cells net))
   cells_fit =
       fit_in_turn net 0 (cell_parts net) (length (port_parts net).pieces) (placed_cells net) (omega arith)
-      (all_by_place (λ c. (n : ℕ) → 0 ≤ n → StandsIn net n (cell_parts net n c).pieces → PartsFit net n (cell_parts net n c))
+      (all_by_place (λ c. (n : ℕ) → 0 ≤ n → StandsIn net n (cell_parts net n c).pieces
+      → PartsFit net n (cell_parts net n c))
       (placed_cells net) (λ k c at n most stands. cell_fits net c (cell_has_sizes k c at) n stands))
       (cells_stand net)
 

@@ -1,10 +1,10 @@
--- Levels of vertices: each is above the places of the bits that the vertex reads, and above the vertices whose outputs it reads.
-use Rattle.std.specs.Prelude.{◌==◌, ◌||◌, slice_get}
-use Rattle.std.proofs.Common.{◌≡◌, ◌⊎◌, ℕ, zero, suc, ◌+◌, ◌<◌, ◌≤◌, Bool, true, false, List, [], ◌∷◌, ◌++◌, length, map, max, Option, Some, None, refl, sym, ap, subst, ◌∙◌, arith, inl, inr}
+-- Levels of vertices: above the places of the bits that the vertex reads, and above the vertices whose outputs it reads.
+use Rattle.std.specs.Prelude.{slice_get}
+use Rattle.std.proofs.Common.{◌≡◌, ◌⊎◌, ℕ, zero, suc, ◌+◌, ◌<◌, ◌≤◌, Bool, true, false, List, [], ◌∷◌, ◌++◌, length, map, max, Option, Some, None, refl, ap, ◌∙◌, arith, inl, inr}
 use Rattle.std.specs.List.{list_any}
 use Rattle.std.proofs.Math.Nat.{le-max_left, le-max_right, max-le}
 use Rattle.std.proofs.lemmas.Bool.{eq-eqb, or_left, or_right}
-use Rattle.std.proofs.lemmas.Option.{none-some, same_Some, slice_get-map, slice_get_within}
+use Rattle.std.proofs.lemmas.Option.{none-some, same_Some, slice_get_within}
 use Rattle.cs_base.specs.declared.signal.Signal.{Signal}
 use Rattle.cs_base.specs.declared.signal.Signal.TheVariants.{Zero, One, Unknown, HighZ, Bit}
 use Rattle.cs_graph.specs.declared.vertex.VertexKind.TheVariants.{Constant}
@@ -118,7 +118,8 @@ module _ (net : Net) (w : IsWellFormed net) (place : ℕ → ℕ) where
       let inner = at_most (bit_level place) p.pins i t there in
       omega (arith, outer, inner)
 
-  tap_at_most : (n : ℕ) (t : Tap) → IsBefore net n t → bit_level place t ≤ most net place → tap_level place (most net place) t ≤ most net place + n
+  tap_at_most : (n : ℕ) (t : Tap) → IsBefore net n t → bit_level place t ≤ most net place
+      → tap_level place (most net place) t ≤ most net place + n
   tap_at_most n (of_signal s) before few = omega (arith, few)
   tap_at_most n (of_vertex v o) before few = let less = before.0 in omega (arith, less)
   tap_at_most n (of_bit b) before few = omega arith
@@ -137,13 +138,15 @@ module _ (net : Net) (w : IsWellFormed net) (place : ℕ → ℕ) where
   level_is v p at = ap (pins_level place (most net place)) at
 
   -- a vertex before ring buffers and constants is at most so high
-  pub level_at_most : (v : ℕ) (p : Piece) → slice_get (parts_of net).pieces v ≡ Some p → level net place v ≤ most net place + v
+  pub level_at_most : (v : ℕ) (p : Piece) → slice_get (parts_of net).pieces v ≡ Some p
+      → level net place v ≤ most net place + v
   level_at_most v p at =
       let same = level_is v p (part_among net v p at) in
       let few = part_level v p at in
       omega (arith, same, few)
 
-  piece_within : (v : ℕ) (p : Piece) → slice_get (pieces_of net ++ constants net) v ≡ Some p → level net place v < span net place
+  piece_within : (v : ℕ) (p : Piece) → slice_get (pieces_of net ++ constants net) v ≡ Some p
+      → level net place v < span net place
   piece_within v p at = elim (known net v p at) [
     | inl part ↦
         let few = level_at_most v p part in

@@ -1,4 +1,5 @@
 mod Examples
+pub mod FormedMemories
 pub mod BackLemmas
 pub mod RingLemmas
 pub mod PlainWires
@@ -8,6 +9,7 @@ pub mod TrailLemmas
 pub mod MeaningLemmas
 pub mod RegisterTrails
 pub mod Places
+pub mod BuiltGraphs
 pub mod NumberedPins
 pub mod SeenLemmas
 pub mod PieceValues
@@ -37,3 +39,10 @@ pub mod FittingCells
 pub mod FittingNets
 pub mod TrailEnds
 pub mod Levels
+pub mod LoweredOrder
+pub mod DraftOutputs
+pub mod DraftMemories
+pub mod PortNumbers
+pub mod PortsInOrder
+pub mod ReadWidths
+pub mod LoweredMachine

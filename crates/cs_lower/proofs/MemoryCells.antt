@@ -26,12 +26,12 @@ use Rattle.cs_lower.proofs.WriteValues.{given, given_writes}
 -- ---- shapes by their numbers
 
 -- the shape of a number among those that there are stands at a cell that has this number
-record HasPlace (shapes : List (Option MemShape)) (k j : ℕ) (shape : MemShape) : Type 0 where
-  at : ℕ
-  stands : slice_get shapes at ≡ Some (Some shape)
-  place : get_or (places_from k shapes) at 0 ≡ k + j
+pub record HasPlace (shapes : List (Option MemShape)) (k j : ℕ) (shape : MemShape) : Type 0 where
+  pub at : ℕ
+  pub stands : slice_get shapes at ≡ Some (Some shape)
+  pub place : get_or (places_from k shapes) at 0 ≡ k + j
 
-place_of_shape : (shapes : List (Option MemShape)) (k j : ℕ) (shape : MemShape) → slice_get (shapes_in shapes) j ≡ Some shape
+pub place_of_shape : (shapes : List (Option MemShape)) (k j : ℕ) (shape : MemShape) → slice_get (shapes_in shapes) j ≡ Some shape
     → HasPlace shapes k j shape
 place_of_shape [] k j shape stands = cc
 place_of_shape (None ∷ shapes) k j shape stands =

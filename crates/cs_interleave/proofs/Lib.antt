@@ -1,0 +1,4 @@
+mod Examples
+pub mod ContextStarts
+pub mod Bankable
+pub mod Isolated
