@@ -32,3 +32,10 @@ pub mod ShownTaps
 pub mod SettledBits
 pub mod HeldStates
 pub mod KeepsAnswers
+pub mod FittingParts
+pub mod FittingCells
+pub mod FittingNets
+pub mod TrailEnds
+pub mod Levels
+pub mod LoweredOrder
+pub mod DraftOutputs

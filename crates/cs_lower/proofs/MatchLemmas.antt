@@ -225,7 +225,7 @@ all_named net (c ∷ cells) (s ∷ shapes) (k ∷ places) named = (
   all_named net cells shapes places (λ i. named (suc i)),
 )
 
-inputs_stand : (net : Net) → StandsIn net 0 (input_parts net).pieces
+pub inputs_stand : (net : Net) → StandsIn net 0 (input_parts net).pieces
 unfolding parts_of
 inputs_stand net = record {
   after = (output_parts net).pieces ++ (in_turn (cell_parts net) (length (port_parts net).pieces) (placed_cells net)).pieces;
@@ -233,7 +233,7 @@ inputs_stand net = record {
       (in_turn (cell_parts net) (length (port_parts net).pieces) (placed_cells net)).pieces;
 }
 
-cells_stand : (net : Net)
+pub cells_stand : (net : Net)
     → StandsIn net (length (port_parts net).pieces)
     (in_turn (cell_parts net) (length (port_parts net).pieces) (placed_cells net)).pieces
 unfolding parts_of

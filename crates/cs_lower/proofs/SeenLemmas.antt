@@ -64,7 +64,7 @@ second_constant true true is = refl
 second_constant false true is = refl
 second_constant low false is = cc
 
-constant_at : (net : Net) (b : Bool) → is_used net b ≡ true
+pub constant_at : (net : Net) (b : Bool) → is_used net b ≡ true
     → slice_get (pieces_of net ++ constants net) (constant_number net b) ≡ Some (piece (Constant b) [])
 constant_at net false used =
     get_right (pieces_of net) (constants net) (length (pieces_of net)) 0 (omega arith)
@@ -78,20 +78,26 @@ pub constant_vertex : (net : Net) (b : Bool) → is_used net b ≡ true
     → PieceAt net (constant_number net b) (piece (Constant b) [])
 constant_vertex net b used = piece_at net (constant_number net b) (piece (Constant b) []) (constant_at net b used)
 
+-- each of them is a Constant
+pub constant_piece : (low high : Bool) (k : ℕ) (p : Piece)
+    → slice_get ((if low then piece (Constant false) [] ∷ [] else [])
+    ++ (if high then piece (Constant true) [] ∷ [] else [])) k ≡ Some p → (b : Bool) × (piece (Constant b) [] ≡ p)
+constant_piece true high zero p at = (false, same_Some (piece (Constant false) []) p at)
+constant_piece true true (suc zero) p at = (true, same_Some (piece (Constant true) []) p at)
+constant_piece true true (suc (suc k)) p at = absurd (none-some p at)
+constant_piece true false (suc k) p at = absurd (none-some p at)
+constant_piece false true zero p at = (true, same_Some (piece (Constant true) []) p at)
+constant_piece false true (suc k) p at = absurd (none-some p at)
+constant_piece false false k p at = absurd (none-some p at)
+
 -- no Constant has pins
 no_pins : (low high : Bool) (k : ℕ) (p : Piece)
     → slice_get ((if low then piece (Constant false) [] ∷ [] else [])
     ++ (if high then piece (Constant true) [] ∷ [] else [])) k ≡ Some p → p.pins ≡ []
-no_pins true high zero p at = sym (ap (λ q. q.pins) (same_Some (piece (Constant false) []) p at))
-no_pins true true (suc zero) p at = sym (ap (λ q. q.pins) (same_Some (piece (Constant true) []) p at))
-no_pins true true (suc (suc k)) p at = absurd (none-some p at)
-no_pins true false (suc k) p at = absurd (none-some p at)
-no_pins false true zero p at = sym (ap (λ q. q.pins) (same_Some (piece (Constant true) []) p at))
-no_pins false true (suc k) p at = absurd (none-some p at)
-no_pins false false k p at = absurd (none-some p at)
+no_pins low high k p at = let is = constant_piece low high k p at in sym (ap (λ q. q.pins) is.1)
 
 -- a constant that a pin needs is used
-used_by : (net : Net) (v i : ℕ) (p : Piece) (t : Tap) (b : Bool)
+pub used_by : (net : Net) (v i : ℕ) (p : Piece) (t : Tap) (b : Bool)
     → slice_get (pieces_of net ++ constants net) v ≡ Some p → slice_get p.pins i ≡ Some t
     → needs_constant b (trail_of net t) ≡ true → is_used net b ≡ true
 used_by net v i p t b at there needs = elim (get_append (pieces_of net) (constants net) v p at) [
@@ -108,7 +114,7 @@ used_by net v i p t b at there needs = elim (get_append (pieces_of net) (constan
 not_later : (n m w : ℕ) → pos n -ℤ pos w ≡ pos m → m < suc n
 not_later n m w is = omega (arith, ints, is)
 
-is_value_itself : (b : Bool) → (if b then b else not b) ≡ true
+pub is_value_itself : (b : Bool) → (if b then b else not b) ≡ true
 is_value_itself true = refl
 is_value_itself false = refl
 

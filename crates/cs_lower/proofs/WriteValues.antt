@@ -109,7 +109,7 @@ three_parts memory a d e narrow wide =
     made p q r = λ i. record { address = p i; word = q i; enable = r i }
 
 -- a port's part of a pin is as wide as its ports
-part_wide : (cell : Cell) (name : List ℕ) (width i count : ℕ) → length (bits_of cell name) ≡ count * width → i < count
+pub part_wide : (cell : Cell) (name : List ℕ) (width i count : ℕ) → length (bits_of cell name) ≡ count * width → i < count
     → length (port_part cell name width i) ≡ width
 part_wide cell name width i count long below =
     let whole : (i + 1) * width ≤ count * width = mul-le-mul_right width (omega (arith, below)) in
