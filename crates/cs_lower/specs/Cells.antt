@@ -15,7 +15,11 @@ use Rattle.cs_net.specs.Build.{places_from}
 use Rattle.cs_net.specs.Drivers.{port_part, read_data, read_element, register_of, signal_of}
 use Rattle.cs_net.specs.Netlist.{Net}
 use Rattle.cs_lower.specs.Registers.{register_parts}
-use Rattle.cs_lower.specs.Taps.{Parts, Piece, both, from_vertex, in_turn, no_parts, of_signal, of_vertex, piece}
+use Rattle.cs_lower.specs.declared.taps.Tap.TheVariants.{Signal as of_signal, Vertex as of_vertex}
+use Rattle.cs_lower.specs.declared.taps.Wire.TheVariants.{Vertex as from_vertex}
+use Rattle.cs_lower.specs.declared.taps.Piece.{Piece}
+use Rattle.cs_lower.specs.declared.taps.Parts.{Parts}
+use Rattle.cs_lower.specs.Taps.{both, in_turn, no_parts, piece}
 
 -- a cell with its shape, of a memory alone, and the number of memories before it
 pub record Placed : Type 0 where

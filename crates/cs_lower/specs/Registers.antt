@@ -8,7 +8,12 @@ use Rattle.cs_cells.specs.Registers.{is_active}
 use Rattle.cs_graph.specs.declared.vertex.VertexKind.TheVariants.{Gate}
 use Rattle.cs_net.specs.Drivers.{Driver, StateElement, driver_of, gate, input, register, undriven, word_bit}
 use Rattle.cs_net.specs.Netlist.{Net}
-use Rattle.cs_lower.specs.Taps.{Parts, Piece, Tap, from_register, of_bit, of_signal, of_vertex, piece}
+use Rattle.cs_lower.specs.declared.taps.Tap.{Tap}
+use Rattle.cs_lower.specs.declared.taps.Tap.TheVariants.{Constant as of_bit, Signal as of_signal, Vertex as of_vertex}
+use Rattle.cs_lower.specs.declared.taps.Wire.TheVariants.{Register as from_register}
+use Rattle.cs_lower.specs.declared.taps.Piece.{Piece}
+use Rattle.cs_lower.specs.declared.taps.Parts.{Parts}
+use Rattle.cs_lower.specs.Taps.{piece}
 
 -- ---- selects that never change
 

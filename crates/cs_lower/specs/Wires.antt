@@ -7,7 +7,11 @@ use Rattle.cs_modules.specs.Signals.{is_bit}
 use Rattle.cs_net.specs.Drivers.{data_inputs, data_outputs}
 use Rattle.cs_net.specs.Netlist.{Net}
 use Rattle.cs_lower.specs.Cells.{cell_parts, placed_cells}
-use Rattle.cs_lower.specs.Taps.{Parts, Wire, both, from_vertex, in_turn, of_signal, piece, undriven}
+use Rattle.cs_lower.specs.declared.taps.Tap.TheVariants.{Signal as of_signal}
+use Rattle.cs_lower.specs.declared.taps.Wire.{Wire}
+use Rattle.cs_lower.specs.declared.taps.Wire.TheVariants.{Vertex as from_vertex, Undriven as undriven}
+use Rattle.cs_lower.specs.declared.taps.Parts.{Parts}
+use Rattle.cs_lower.specs.Taps.{both, in_turn, piece}
 
 -- the host, then the data inputs, which are numbered from 1
 abbrev pub input_parts : Net → Parts

@@ -2,5 +2,7 @@
 #![tactic(auto)]
 
 mod laws;
+mod taps;
 
 pub use laws::keeps_answers;
+pub use taps::{Parts, Piece, Tap, Wire};
