@@ -39,3 +39,6 @@ pub mod TrailEnds
 pub mod Levels
 pub mod LoweredOrder
 pub mod DraftOutputs
+mod DrivenLemmas
+mod PushedChains
+mod PushedParts

@@ -1,7 +1,10 @@
 //! From an accepted netlist to the graph that is slowed, banked and retimed.
 #![tactic(auto)]
 
+mod cells;
+mod driven;
 mod laws;
+mod registers;
 mod taps;
 
 pub use laws::keeps_answers;
