@@ -1,5 +1,5 @@
 -- The signals that a netlist drives, and whether a bit is among them.
-use Rattle.std.proofs.Common.{◌≡◌, ℕ, zero, suc, ◌+◌, ◌≤◌, ◌==◌, ◌||◌, Bool, true, false, not, if◌then◌else◌, List, [], ◌∷◌, ◌++◌, map, Option, Some, None, find, filter_map, is_some, option_map, unwrap_or, flat_map, codes, drop, length, arith, append-nil, refl, sym, ap, ◌∙◌}
+use Rattle.std.proofs.Common.{◌≡◌, ◌⊎◌, inl, inr, ℕ, zero, suc, ◌+◌, ◌≤◌, ◌==◌, ◌||◌, Bool, true, false, not, if◌then◌else◌, List, [], ◌∷◌, ◌++◌, map, Option, Some, None, find, filter_map, is_some, option_map, unwrap_or, flat_map, codes, drop, length, arith, append-nil, refl, sym, ap, ◌∙◌}
 use Rattle.std.specs.List.{AllByRecursion, enumerate_from, list_any, zip}
 use Rattle.cs_base.specs.declared.signal.Signal.{Signal}
 use Rattle.cs_base.specs.declared.signal.Signal.TheVariants.{Zero, One, Unknown, HighZ, Bit}
@@ -76,6 +76,20 @@ all_signals net =
     let inputs : List DrivenSignal = map (λ e. (e.1, input e.0)) (enumerate_from 0 (data_inputs net)) in
     ap (λ first. first ++ outputs_of (zip net.cells net.shapes)) (sym (signals_of (λ e. input e.0) 0 (data_inputs net)))
     ∙ sym (map-append (λ (d : DrivenSignal). d.0) inputs (flat_map cell_drives (zip net.cells net.shapes)))
+
+-- where either list has ended there are no pairs
+pub no_pairs : {A B X Y : Type 0} {P : X → Type 0} {Q : Y → Type 0} (xs : List A) (ys : List B)
+    → ((x : X) × (length xs ≡ 0) × P x) ⊎ ((y : Y) × (length ys ≡ 0) × Q y) → zip xs ys ≡ []
+no_pairs [] ys ended = refl
+no_pairs (x ∷ xs) [] ended = refl
+no_pairs (x ∷ xs) (y ∷ ys) (inl ended) = absurd (omega (arith, ended.1.0))
+no_pairs (x ∷ xs) (y ∷ ys) (inr ended) = absurd (omega (arith, ended.1.0))
+
+pub all_outputs : (net : Net) (cells : List (Cell × Option MemShape)) (made : List Signal) → cells ≡ []
+    → made ++ outputs_of cells ≡ data_inputs net ++ outputs_of (zip net.cells net.shapes)
+    → made ≡ map (λ (d : DrivenSignal). d.0) (drivers net)
+all_outputs net cells made none so_far =
+    sym (append-nil made) ∙ ap (λ left. made ++ outputs_of left) (sym none) ∙ so_far ∙ all_signals net
 
 -- ---- which bits are driven
 

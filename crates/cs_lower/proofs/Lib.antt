@@ -42,3 +42,6 @@ pub mod DraftOutputs
 mod DrivenLemmas
 mod PushedChains
 mod PushedParts
+mod PushedCells
+mod FewReads
+mod PushedPorts

@@ -1,5 +1,5 @@
 -- The vertices of each cell.
-use Rattle.std.specs.Prelude.{ℕ, ◌+◌, List, [], ◌∷◌, ◌++◌, if◌then◌else◌, map, Option, Some, None, codes, get_or, false}
+use Rattle.std.specs.Prelude.{◌≡◌, ℕ, ◌+◌, ◌^◌, ◌<◌, length, List, [], ◌∷◌, ◌++◌, if◌then◌else◌, map, Option, Some, None, codes, get_or, false}
 use Rattle.std.specs.List.{enumerate_from, zip}
 use Rattle.cs_base.specs.declared.signal.Signal.{Signal}
 use Rattle.cs_base.specs.declared.signal.Signal.TheVariants.{Zero}
@@ -82,6 +82,10 @@ data_parts net cell shape read v =
 abbrev pub read_piece : ℕ → Cell → MemShape → ℕ → Piece
 read_piece memory cell shape port =
     piece (Read memory port) (map of_signal (port_part cell (codes "RD_ADDR") shape.abits port))
+
+-- a memory's read ports are so few that a number of 32 bits tells each
+abbrev pub HasFewReads : Option MemShape → Type 0
+HasFewReads shape = (s : MemShape) → shape ≡ Some s → length s.reads < 2 ^ 32
 
 -- a read port: a Read and, where it is clocked, the vertices of a register for each data bit
 abbrev pub read_parts : Net → ℕ → Cell → MemShape → ℕ → ℕ × ReadShape → Parts

@@ -119,6 +119,13 @@ impl<'a> DrivenBits<'a> {
         Ok(DrivenBits { net, numbers })
     }
 
+    /// The netlist itself.
+    pub fn netlist(&self) -> &'a Netlist
+        ensures { result.now ≡ self.now }
+    {
+        self.net
+    }
+
     /// The bit that a constant, or a bit that nothing drives, stands for.
     pub fn still(&self, signal: Signal) -> Option<bool>
         ensures { result ≡ still self.now signal }

@@ -4,8 +4,11 @@
 mod cells;
 mod driven;
 mod laws;
+mod memories;
+mod parts;
 mod registers;
 mod taps;
+mod wires;
 
 pub use laws::keeps_answers;
 pub use taps::{Parts, Piece, Tap, Wire};

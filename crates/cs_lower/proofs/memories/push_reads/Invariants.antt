@@ -2,7 +2,7 @@ use Rattle.std.proofs.Common.{◌≡◌, drop, length}
 use Rattle.std.specs.List.{enumerate_from}
 use Rattle.cs_lower.specs.Cells.{read_parts}
 use Rattle.cs_lower.specs.Taps.{both, in_turn}
-use Rattle.cs_lower.proofs.cells.push_reads.Given as goal
+use Rattle.cs_lower.proofs.memories.push_reads.Given as goal
 
 -- the read ports that are left come behind those that are pushed
 abbrev pub invariant-loop-port : goal.invariant-loop-port

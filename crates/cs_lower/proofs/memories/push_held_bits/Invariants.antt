@@ -2,7 +2,7 @@ use Rattle.std.proofs.Common.{◌≡◌, drop, length}
 use Rattle.std.specs.List.{enumerate_from}
 use Rattle.cs_lower.specs.Cells.{held_parts}
 use Rattle.cs_lower.specs.Taps.{both, in_turn}
-use Rattle.cs_lower.proofs.cells.push_held_bits.Given as goal
+use Rattle.cs_lower.proofs.memories.push_held_bits.Given as goal
 
 -- the registers that are left come behind those that are pushed
 abbrev pub invariant-loop-place : goal.invariant-loop-place
