@@ -78,12 +78,11 @@ all_signals net =
     ∙ sym (map-append (λ (d : DrivenSignal). d.0) inputs (flat_map cell_drives (zip net.cells net.shapes)))
 
 -- where either list has ended there are no pairs
-pub no_pairs : {A B X Y : Type 0} {P : X → Type 0} {Q : Y → Type 0} (xs : List A) (ys : List B)
-    → ((x : X) × (length xs ≡ 0) × P x) ⊎ ((y : Y) × (length ys ≡ 0) × Q y) → zip xs ys ≡ []
+pub no_pairs : {A B : Type 0} (xs : List A) (ys : List B) → (length xs ≡ 0) ⊎ (length ys ≡ 0) → zip xs ys ≡ []
 no_pairs [] ys ended = refl
 no_pairs (x ∷ xs) [] ended = refl
-no_pairs (x ∷ xs) (y ∷ ys) (inl ended) = absurd (omega (arith, ended.1.0))
-no_pairs (x ∷ xs) (y ∷ ys) (inr ended) = absurd (omega (arith, ended.1.0))
+no_pairs (x ∷ xs) (y ∷ ys) (inl ended) = absurd (omega (arith, ended))
+no_pairs (x ∷ xs) (y ∷ ys) (inr ended) = absurd (omega (arith, ended))
 
 pub all_outputs : (net : Net) (cells : List (Cell × Option MemShape)) (made : List Signal) → cells ≡ []
     → made ++ outputs_of cells ≡ data_inputs net ++ outputs_of (zip net.cells net.shapes)

@@ -1,7 +1,7 @@
 -- A netlist has few shapes, and each memory few read ports.
-use Rattle.std.proofs.Common.{◌≡◌, ℕ, ◌<◌, ◌≤◌, ◌^◌, ◌-◌, ◌⊎◌, inl, inr, Bool, true, false, cond, List, [], ◌∷◌, length, map, min, nat_lt, Option, Some, None, codes, refl, sym, ap, subst, ◌∙◌, arith}
+use Rattle.std.proofs.Common.{◌≡◌, ℕ, ◌<◌, ◌≤◌, ◌^◌, ◌-◌, inl, inr, Bool, true, false, cond, List, [], ◌∷◌, length, map, min, nat_lt, Option, Some, None, codes, refl, sym, ap, subst, ◌∙◌, arith}
 use Rattle.std.specs.List.{AllByRecursion, list_all}
-use Rattle.std.proofs.lemmas.Bool.{lt-ltb, ltb-true}
+use Rattle.std.proofs.lemmas.Bool.{cases_lt, lt-ltb, ltb-true}
 use Rattle.cs_base.specs.declared.limit.Counted.TheVariants.{Cells}
 use Rattle.cs_base.specs.declared.limit.LimitFault.{LimitFault}
 use Rattle.cs_cells.specs.declared.class.Class.{Class}
@@ -9,7 +9,6 @@ use Rattle.cs_cells.specs.declared.class.Class.TheVariants.{Gate, Register, Memo
 use Rattle.cs_cells.specs.declared.memory.MemShape.{MemShape}
 use Rattle.cs_conditions.specs.Conditions.{or_else}
 use Rattle.cs_json.specs.declared.document.CellDecl.{CellDecl}
-use Rattle.cs_modules.specs.Digits.{datum_at}
 use Rattle.cs_modules.specs.Memories.{memory_shape, read_shape, shape_by, shape_of}
 use Rattle.cs_modules.specs.Modules.{cells_of}
 use Rattle.cs_modules.specs.Pins.{class_at, count_from, has_pins, has_right_pins, has_sizes, is_size, memory_sizes, number_at, widths_of}
@@ -39,7 +38,7 @@ few_of_memory d sizes s is =
 few_of_class : (d : CellDecl) (k : Class) → has_sizes k d ≡ true → HasFewReads (shape_by k d)
 few_of_class d (Gate kind) sizes s is = absurd (cc)
 few_of_class d (Register kind) sizes s is = absurd (cc)
-few_of_class d Memory sizes = few_of_memory d sizes
+few_of_class d Memory sizes s is = few_of_memory d sizes s is
 few_of_class d Scope sizes s is = absurd (cc)
 few_of_class d Asynchronous sizes s is = absurd (cc)
 few_of_class d NotFine sizes s is = absurd (cc)
@@ -59,13 +58,6 @@ few_reads net w =
 
 -- ---- shapes
 
-cases_le : (cells most : ℕ) → (most < cells → cells ≤ most) → cells ≤ most
-cases_le cells most refuted = by (omega arith)
-  where
-    by : (cells ≤ most) ⊎ (most < cells) → cells ≤ most
-    by (inl below) = below
-    by (inr above) = refuted above
-
 few_cells : (cells : ℕ) (rest : Option LimitFault) → or_else (above_limit Cells cells 65536) rest ≡ None → cells ≤ 65536
 few_cells cells rest none = by (nat_lt 65536 cells) refl
   where
@@ -73,7 +65,10 @@ few_cells cells rest none = by (nat_lt 65536 cells) refl
     by true many =
         let some = sym (ap (λ t. or_else (cond t (Some (record { what = Cells; found = min cells (2 ^ 64 - 1); most = 65536 })) None) rest) many) ∙ none in
         absurd (cc)
-    by false few = cases_le cells 65536 (λ many. let yes = lt-ltb 65536 cells many in absurd (cc))
+    by false few = elim (cases_lt 65536 cells) [
+      | inl many ↦ let yes = lt-ltb 65536 cells many in absurd (cc)
+      | inr below ↦ below
+    ]
 
 pub few_shapes : (net : Net) → IsWellFormed net → length net.shapes ≤ 65536
 unfolding limit_fault

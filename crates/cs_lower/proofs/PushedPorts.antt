@@ -52,12 +52,12 @@ ports_are net inputs outputs none host all whole is_in is_out is_none is_host is
 -- ---- cells
 
 -- no cell is left where either list has ended
-pub none_placed : {X Y : Type 0} {P : X → Type 0} {Q : Y → Type 0} (k : ℕ) (cells : List Cell) (shapes : List (Option MemShape))
-    → ((x : X) × (length cells ≡ 0) × P x) ⊎ ((y : Y) × (length shapes ≡ 0) × Q y) → placed_from k cells shapes ≡ []
+pub none_placed : (k : ℕ) (cells : List Cell) (shapes : List (Option MemShape)) → (length cells ≡ 0) ⊎ (length shapes ≡ 0)
+    → placed_from k cells shapes ≡ []
 none_placed k [] shapes ended = refl
 none_placed k (c ∷ cells) [] ended = refl
-none_placed k (c ∷ cells) (s ∷ shapes) (inl ended) = absurd (omega (arith, ended.1.0))
-none_placed k (c ∷ cells) (s ∷ shapes) (inr ended) = absurd (omega (arith, ended.1.0))
+none_placed k (c ∷ cells) (s ∷ shapes) (inl ended) = absurd (omega (arith, ended))
+none_placed k (c ∷ cells) (s ∷ shapes) (inr ended) = absurd (omega (arith, ended))
 
 -- past the last all parts are pushed
 pub all_pushed : {A : Type 0} (f : ℕ → A → Parts) (left : List A) (parts whole : Parts) → left ≡ []

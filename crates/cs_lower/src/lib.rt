@@ -11,4 +11,3 @@ mod taps;
 mod wires;
 
 pub use laws::keeps_answers;
-pub use taps::{Parts, Piece, Tap, Wire};
