@@ -1,8 +1,7 @@
 -- Each source that drives a pin of a netlist's draft is an output that is there; so the graph of a netlist is well-formed.
 use Rattle.std.specs.Prelude.{◌&&◌, slice_get}
-use Rattle.std.proofs.Common.{◌≡◌, ℕ, ◌+◌, Bool, true, List, [], ◌∷◌, ◌++◌, Option, Some, refl, sym, ap, ap₂, subst, ◌∙◌, arith, inl, inr}
+use Rattle.std.proofs.Common.{◌≡◌, ℕ, Bool, true, List, [], ◌∷◌, ◌++◌, Some, refl, ap, ap₂, subst, ◌∙◌, arith, inl, inr}
 use Rattle.std.proofs.lemmas.Option.{none-some, same_Some}
-use Rattle.cs_graph.specs.declared.source.Driver.{Driver}
 use Rattle.cs_graph.specs.declared.source.OpenVertex.{OpenVertex}
 use Rattle.cs_graph.specs.declared.source.Source.{Source}
 use Rattle.cs_graph.specs.declared.source.Source.TheVariants.{Driven, Tied}
@@ -16,10 +15,8 @@ use Rattle.cs_net.proofs.MemoryPlaces.{map_at}
 use Rattle.cs_lower.specs.Followed.{End, at_bit, at_vertex}
 use Rattle.cs_lower.specs.Lowered.{constant_number, constant_source, constants, draft_of, is_used, is_value, lowered, needs_constant, passes_some, pieces_of, source_by, source_of, trail_of, vertex_of}
 use Rattle.cs_lower.specs.declared.taps.Tap.{Tap}
-use Rattle.cs_lower.specs.declared.taps.Tap.TheVariants.{Register as of_register}
 use Rattle.cs_lower.specs.declared.taps.Piece.{Piece}
 use Rattle.cs_lower.specs.Taps.{piece}
-use Rattle.cs_lower.specs.Wires.{parts_of}
 use Rattle.cs_lower.proofs.FittingNets.{part_fits}
 use Rattle.cs_lower.proofs.FittingParts.{IsBefore}
 use Rattle.cs_lower.proofs.Levels.{known}

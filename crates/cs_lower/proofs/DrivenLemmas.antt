@@ -9,23 +9,23 @@ use Rattle.cs_cells.specs.declared.memory.MemShape.{MemShape}
 use Rattle.cs_cells.specs.declared.memory.ReadShape.{ReadShape}
 use Rattle.cs_modules.specs.Signals.{is_bit, number_in}
 use Rattle.cs_net.specs.declared.netlist.Cell.{Cell}
-use Rattle.cs_net.specs.Drivers.{DrivenSignal, Driver, cell_drives, class_drives, data_inputs, driver_of, drivers, input, memory_drives, port_part, read_data, read_driver, read_drives, undriven}
+use Rattle.cs_net.specs.Drivers.{DrivenSignal, Driver, cell_drives, class_drives, data_inputs, driver_of, drivers, input, memory_drives, port_part, read_driver, read_drives, undriven}
 use Rattle.cs_net.specs.Netlist.{Net}
 use Rattle.cs_lower.specs.Registers.{is_driven, still_driver}
 
 -- ---- what memories drive
 
-pub map-append : {A B : Type 0} (f : A → B) (xs ys : List A) → map f (xs ++ ys) ≡ map f xs ++ map f ys
+map-append : {A B : Type 0} (f : A → B) (xs ys : List A) → map f (xs ++ ys) ≡ map f xs ++ map f ys
 map-append f [] ys = refl
 map-append f (x ∷ xs) ys = ap (λ rest. f x ∷ rest) (map-append f xs ys)
 
-pub none_left : {A : Type 0} (i : ℕ) (xs : List A) → length xs ≤ i → drop i xs ≡ []
+none_left : {A : Type 0} (i : ℕ) (xs : List A) → length xs ≤ i → drop i xs ≡ []
 none_left zero [] past = refl
 none_left (suc i) [] past = refl
 none_left zero (x ∷ xs) past = absurd (omega (arith, past))
 none_left (suc i) (x ∷ xs) past = none_left i xs (omega (arith, past))
 
-pub signals_of : {C : Type 0} (f : ℕ × Signal → C) (k : ℕ) (xs : List Signal)
+signals_of : {C : Type 0} (f : ℕ × Signal → C) (k : ℕ) (xs : List Signal)
     → map (λ (d : Signal × C). d.0) (map (λ e. (e.1, f e)) (enumerate_from k xs)) ≡ xs
 signals_of f k [] = refl
 signals_of f k (x ∷ xs) = ap (λ rest. x ∷ rest) (signals_of f (k + 1) xs)
@@ -44,7 +44,7 @@ memory_signals cell shape (read ∷ reads) =
     (sym (signals_of (λ e. read_driver cell shape read.1 read.0 e.0) 0 part))
     ∙ sym (map-append (λ (d : DrivenSignal). d.0) (read_drives cell shape read) (flat_map (read_drives cell shape) reads))
 
-pub memory_data : (cell : Cell) (shape : MemShape)
+memory_data : (cell : Cell) (shape : MemShape)
     → data_of cell shape (enumerate_from 0 shape.reads) ≡ map (λ (d : DrivenSignal). d.0) (memory_drives cell (Some shape))
 memory_data cell shape = memory_signals cell shape (enumerate_from 0 shape.reads)
 
@@ -66,11 +66,7 @@ data_pushed cell shape port reads made old same past so_far =
 abbrev pub outputs_of : List (Cell × Option MemShape) → List Signal
 outputs_of cells = map (λ (d : DrivenSignal). d.0) (flat_map cell_drives cells)
 
-pub one_more_cell : (c : Cell × Option MemShape) (cells : List (Cell × Option MemShape))
-    → outputs_of (c ∷ cells) ≡ map (λ (d : DrivenSignal). d.0) (cell_drives c) ++ outputs_of cells
-one_more_cell c cells = map-append (λ (d : DrivenSignal). d.0) (cell_drives c) (flat_map cell_drives cells)
-
-pub all_signals : (net : Net)
+all_signals : (net : Net)
     → data_inputs net ++ outputs_of (zip net.cells net.shapes) ≡ map (λ (d : DrivenSignal). d.0) (drivers net)
 all_signals net =
     let inputs : List DrivenSignal = map (λ e. (e.1, input e.0)) (enumerate_from 0 (data_inputs net)) in

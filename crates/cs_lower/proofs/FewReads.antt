@@ -13,7 +13,7 @@ use Rattle.cs_modules.specs.Memories.{memory_shape, read_shape, shape_by, shape_
 use Rattle.cs_modules.specs.Modules.{cells_of}
 use Rattle.cs_modules.specs.Pins.{class_at, count_from, has_pins, has_right_pins, has_sizes, is_size, memory_sizes, number_at, widths_of}
 use Rattle.cs_modules.proofs.GatePins.{all_pass, both}
-use Rattle.cs_net.specs.Accept.{above_limit, limit_fault, limit_fault_of, memory_fault_of}
+use Rattle.cs_net.specs.Accept.{above_limit, limit_fault, memory_fault_of}
 use Rattle.cs_net.specs.Build.{net_of}
 use Rattle.cs_net.specs.Invariant.{IsWellFormed}
 use Rattle.cs_net.specs.Netlist.{Net}
@@ -30,7 +30,7 @@ few_of_memory d sizes s is =
     let parts = all_pass (is_size d) memory_sizes sizes in
     let small : nat_lt count (2 ^ 32) ≡ true = (both _ (nat_lt count (2 ^ 32)) parts.1.1.1.0).1 in
     let many : length (memory_shape d).reads ≡ count =
-        length-map-count (read_shape d (number_at d (codes "WIDTH"))) (count_from 0 count) ∙ length-count_from 0 count in
+    length-map-count (read_shape d (number_at d (codes "WIDTH"))) (count_from 0 count) ∙ length-count_from 0 count in
     let below : count < 2 ^ 32 = ltb-true count (2 ^ 32) small in
     let same : memory_shape d ≡ s = cc in
     subst (λ (x : MemShape). length x.reads < 2 ^ 32) same (subst (λ n. n < 2 ^ 32) (sym many) below)
@@ -46,9 +46,10 @@ few_of_class d Unknown sizes s is = absurd (cc)
 
 few_of_cells : (ds : List CellDecl) → AllByRecursion (λ d. has_right_pins d ≡ true) ds → AllByRecursion HasFewReads (map shape_of ds)
 few_of_cells [] right = tt
-few_of_cells (d ∷ ds) right =
-    (few_of_class d (class_at d) (both (has_sizes (class_at d) d) (has_pins (widths_of (class_at d) d) d.pins) right.0).0,
-      few_of_cells ds right.1)
+few_of_cells (d ∷ ds) right = (
+  few_of_class d (class_at d) (both (has_sizes (class_at d) d) (has_pins (widths_of (class_at d) d) d.pins) right.0).0,
+  few_of_cells ds right.1,
+)
 
 pub few_reads : (net : Net) → IsWellFormed net → AllByRecursion HasFewReads net.shapes
 unfolding net_of

@@ -1,6 +1,6 @@
 -- The vertices of cells fit, where memories have the sizes of their cells' shapes.
 use Rattle.std.specs.Prelude.{if◌then◌else◌, slice_get}
-use Rattle.std.proofs.Common.{◌≡◌, ℕ, zero, suc, ◌+◌, ◌*◌, ◌<◌, ◌≤◌, Bool, true, false, List, [], ◌∷◌, ◌++◌, length, map, Option, Some, None, codes, refl, sym, ap, ap₂, subst, ◌∙◌, arith, length-append}
+use Rattle.std.proofs.Common.{◌≡◌, ℕ, zero, suc, ◌+◌, ◌*◌, ◌<◌, ◌≤◌, Bool, true, false, List, [], ◌∷◌, ◌++◌, length, map, Option, Some, None, codes, refl, sym, ◌∙◌, arith, length-append}
 use Rattle.std.specs.List.{AllByRecursion, enumerate_from}
 use Rattle.std.proofs.lemmas.List.{length-map}
 use Rattle.cs_base.specs.declared.signal.Signal.{Signal}
@@ -10,14 +10,14 @@ use Rattle.cs_cells.specs.declared.gate.Kind.{Kind}
 use Rattle.cs_cells.specs.declared.memory.MemShape.{MemShape}
 use Rattle.cs_cells.specs.declared.memory.ReadShape.{ReadShape}
 use Rattle.cs_cells.specs.Gates.{pin_count, pin_name}
-use Rattle.cs_graph.specs.declared.vertex.VertexKind.TheVariants.{Gate, Read, Write}
+use Rattle.cs_graph.specs.declared.vertex.VertexKind.TheVariants.{Gate, Read}
 use Rattle.cs_graph.specs.Kinds.{address_bits, word_bits}
 use Rattle.cs_modules.specs.Pins.{count_from}
 use Rattle.cs_net.specs.declared.netlist.Cell.{Cell}
 use Rattle.cs_net.specs.Drivers.{bits_of, port_part, read_data, read_element, register_of, signal_of}
 use Rattle.cs_net.specs.Netlist.{Net}
 use Rattle.cs_net.proofs.PinWidths.{length-count_from}
-use Rattle.cs_lower.specs.Cells.{Datum, Placed, cell_parts, class_parts, data_parts, gate_parts, held_parts, memory_parts, read_parts, read_wires, write_parts, write_piece}
+use Rattle.cs_lower.specs.Cells.{Placed, cell_parts, class_parts, data_parts, gate_parts, held_parts, memory_parts, read_parts, read_wires, write_parts, write_piece}
 use Rattle.cs_lower.specs.Lowered.{draft_of}
 use Rattle.cs_lower.specs.declared.taps.Tap.TheVariants.{Signal as of_signal, Vertex as of_vertex}
 use Rattle.cs_lower.specs.declared.taps.Piece.{Piece}

@@ -1,19 +1,17 @@
 -- The vertices of a netlist fit, and what drives its bits is there.
 use Rattle.std.specs.Prelude.{slice_get}
-use Rattle.std.proofs.Common.{◌≡◌, ℕ, zero, suc, ◌+◌, ◌*◌, ◌<◌, ◌≤◌, List, [], ◌∷◌, length, map, get_or, Option, Some, None, codes, refl, sym, ap, subst, ◌∙◌, arith}
+use Rattle.std.proofs.Common.{◌≡◌, ℕ, zero, suc, ◌+◌, ◌*◌, ◌≤◌, List, [], ◌∷◌, length, map, Option, Some, None, codes, refl, ap, subst, ◌∙◌, arith}
 use Rattle.std.specs.List.{AllByRecursion, enumerate_from}
 use Rattle.std.proofs.lemmas.Option.{none-some, same_Some, slice_get_within}
 use Rattle.cs_base.specs.declared.signal.Signal.{Signal}
 use Rattle.cs_cells.specs.declared.class.Class.TheVariants.{Memory}
 use Rattle.cs_cells.specs.declared.memory.MemShape.{MemShape}
-use Rattle.cs_graph.specs.declared.memory.Memory.{Memory as GraphMemory}
 use Rattle.cs_graph.specs.declared.vertex.VertexKind.TheVariants.{Host, Input, Output}
 use Rattle.cs_graph.specs.Kinds.{address_bits, word_bits}
 use Rattle.cs_modules.specs.Memories.{shapes_in}
 use Rattle.cs_modules.specs.Pins.{width_at}
 use Rattle.cs_net.specs.declared.netlist.Cell.{Cell}
 use Rattle.cs_net.specs.declared.state.MemoryWords.{MemoryWords}
-use Rattle.cs_net.specs.Build.{places_from}
 use Rattle.cs_net.specs.Drivers.{bits_of, data_inputs, data_outputs}
 use Rattle.cs_net.specs.Invariant.{IsWellFormed}
 use Rattle.cs_net.specs.Netlist.{Net}
@@ -22,16 +20,16 @@ use Rattle.cs_net.proofs.MemoryFacts.{memory_count}
 use Rattle.cs_net.proofs.Members.{within_has}
 use Rattle.cs_net.proofs.PinWidths.{pin_is_wide}
 use Rattle.cs_lower.specs.Cells.{Placed, cell_parts, placed_cells}
-use Rattle.cs_lower.specs.Lowered.{draft_of, lowered, memory_of}
+use Rattle.cs_lower.specs.Lowered.{draft_of, memory_of}
 use Rattle.cs_lower.specs.declared.taps.Tap.TheVariants.{Signal as of_signal}
 use Rattle.cs_lower.specs.declared.taps.Wire.{Wire}
 use Rattle.cs_lower.specs.declared.taps.Wire.TheVariants.{Vertex as from_vertex}
 use Rattle.cs_lower.specs.declared.taps.Piece.{Piece}
 use Rattle.cs_lower.specs.declared.taps.Parts.{Parts}
-use Rattle.cs_lower.specs.Taps.{both, in_turn, piece}
+use Rattle.cs_lower.specs.Taps.{in_turn, piece}
 use Rattle.cs_lower.specs.Wires.{input_parts, output_parts, parts_of, port_parts}
-use Rattle.cs_lower.proofs.FittingCells.{CellHasSizes, HasSizes, cell_fits}
-use Rattle.cs_lower.proofs.FittingParts.{FitFrom, Fits, IsThere, PartsFit, fit_append, fit_both, fit_in_turn}
+use Rattle.cs_lower.proofs.FittingCells.{CellHasSizes, cell_fits}
+use Rattle.cs_lower.proofs.FittingParts.{FitFrom, Fits, IsThere, PartsFit, fit_both, fit_in_turn}
 use Rattle.cs_lower.proofs.MatchLists.{StandsIn}
 use Rattle.cs_lower.proofs.PlacedCells.{placed, placed_from, shape_at}
 use Rattle.cs_lower.proofs.SeenMemories.{memory_at}

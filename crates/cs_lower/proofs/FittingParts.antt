@@ -3,9 +3,8 @@ use Rattle.std.specs.Prelude.{if◌then◌else◌, slice_get}
 use Rattle.std.proofs.Common.{◌≡◌, ℕ, ◌+◌, ◌<◌, ◌≤◌, Bool, true, false, List, [], ◌∷◌, ◌++◌, length, map, Option, Some, None, refl, ap, subst, ◌∙◌, arith, length-append}
 use Rattle.std.specs.List.{AllByRecursion}
 use Rattle.cs_base.specs.declared.signal.Signal.{Signal}
-use Rattle.cs_cells.specs.declared.gate.Kind.TheVariants.{Mux}
 use Rattle.cs_cells.specs.declared.register.ResetKind.{ResetKind}
-use Rattle.cs_graph.specs.declared.vertex.VertexKind.TheVariants.{Gate, Host}
+use Rattle.cs_graph.specs.declared.vertex.VertexKind.TheVariants.{Host}
 use Rattle.cs_graph.specs.Invariant.{HasMemory}
 use Rattle.cs_graph.specs.Kinds.{output_count, pin_count}
 use Rattle.cs_net.specs.Drivers.{StateElement}

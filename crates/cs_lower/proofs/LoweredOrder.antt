@@ -1,9 +1,8 @@
 -- The graph of a netlist has an order: no loop lacks a register.
 use Rattle.std.specs.Prelude.{◌==◌, slice_get}
-use Rattle.std.proofs.Common.{◌≡◌, ℕ, zero, suc, ◌+◌, ◌<◌, ◌≤◌, Bool, true, false, List, [], ◌∷◌, ◌++◌, length, map, Option, Some, None, refl, sym, ap, subst, ◌∙◌, arith, inl, inr, length-append}
+use Rattle.std.proofs.Common.{◌≡◌, ℕ, zero, suc, ◌+◌, ◌<◌, Bool, true, false, List, [], ◌∷◌, ◌++◌, length, Option, Some, None, refl, sym, ap, subst, ◌∙◌, arith, inl, inr, length-append}
 use Rattle.std.specs.List.{position_from}
 use Rattle.std.proofs.lemmas.Option.{none-some, same_Some}
-use Rattle.cs_base.specs.declared.signal.Signal.{Signal}
 use Rattle.cs_base.specs.declared.signal.Signal.TheVariants.{Zero, One, Unknown, HighZ, Bit}
 use Rattle.cs_graph.specs.declared.edge.Edge.{Edge}
 use Rattle.cs_graph.specs.declared.source.Driver.{Driver}
@@ -17,7 +16,7 @@ use Rattle.cs_net.specs.Invariant.{IsWellFormed}
 use Rattle.cs_net.specs.Netlist.{Net}
 use Rattle.cs_net.proofs.Members.{of_all}
 use Rattle.cs_net.proofs.MemoryPlaces.{map_at}
-use Rattle.cs_lower.specs.Followed.{End, Trail, at_bit, at_vertex, behind_wire, ends, from_tap}
+use Rattle.cs_lower.specs.Followed.{End, Trail, at_bit, at_vertex, behind_wire, ends}
 use Rattle.cs_lower.specs.Lowered.{buffer, constant_source, constants, draft_of, lowered, pieces_of, source_by, source_of, trail_of, vertex_of, wiring_of}
 use Rattle.cs_lower.specs.Matching.{Matches}
 use Rattle.cs_lower.specs.declared.taps.Tap.{Tap}
@@ -27,8 +26,8 @@ use Rattle.cs_lower.specs.declared.taps.Wire.TheVariants.{Register as from_regis
 use Rattle.cs_lower.specs.declared.taps.Piece.{Piece}
 use Rattle.cs_lower.specs.Wires.{parts_of, wire_in}
 use Rattle.cs_lower.proofs.FittingNets.{part_fits}
-use Rattle.cs_lower.proofs.FittingParts.{Gives, IsBefore}
-use Rattle.cs_lower.proofs.Levels.{at_most, bits_level, driver_level, greatest, known, level, level_at_most, level_is, level_within, most, span, tap_level}
+use Rattle.cs_lower.proofs.FittingParts.{IsBefore}
+use Rattle.cs_lower.proofs.Levels.{at_most, driver_level, known, level, level_at_most, level_is, level_within, most, span, tap_level}
 use Rattle.cs_lower.proofs.MatchLemmas.{matches, well_named}
 use Rattle.cs_lower.proofs.TrailEnds.{buffer_at, ring_register}
 use Rattle.cs_lower.proofs.TrailLemmas.{trail_of_free, trail_of_register, trail_of_ring, trail_step}

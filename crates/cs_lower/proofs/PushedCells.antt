@@ -1,5 +1,5 @@
 -- The vertices of cells, as they are pushed.
-use Rattle.std.proofs.Common.{◌≡◌, ℕ, ◌+◌, List, [], ◌∷◌, codes, refl, sym, ap, ◌∙◌}
+use Rattle.std.proofs.Common.{◌≡◌, ℕ, codes, ap, ◌∙◌}
 use Rattle.cs_base.specs.declared.signal.Signal.{Signal}
 use Rattle.cs_cells.specs.declared.memory.MemShape.{MemShape}
 use Rattle.cs_cells.specs.declared.memory.ReadShape.{ReadShape}
@@ -18,12 +18,12 @@ pub register_cell_is : (net : Net) (n : ℕ) (cell : Cell) (kind : FfKind) (q e 
     → q ≡ signal_of cell (codes "Q") → e ≡ signal_of cell (codes "E") → r ≡ signal_of cell (codes "R")
     → d ≡ signal_of cell (codes "D")
     → (let pins : RegisterPins = record { kind = kind; q = q; enable = e; reset = r } in
-      register_parts net n q (element_of (from_signal (signal_of cell (codes "D"))) pins) (of_signal d))
+    register_parts net n q (element_of (from_signal (signal_of cell (codes "D"))) pins) (of_signal d))
     ≡ register_cell_parts net n cell kind
 register_cell_is net n cell kind q e r d qs es rs ds =
     let parts : Signal → Signal → Signal → Signal → Parts = λ a b c f.
-        let pins : RegisterPins = record { kind = kind; q = a; enable = b; reset = c } in
-        register_parts net n a (element_of (from_signal (signal_of cell (codes "D"))) pins) (of_signal f) in
+    let pins : RegisterPins = record { kind = kind; q = a; enable = b; reset = c } in
+    register_parts net n a (element_of (from_signal (signal_of cell (codes "D"))) pins) (of_signal f) in
     ap (λ x. parts x e r d) qs ∙ ap (λ x. parts (signal_of cell (codes "Q")) x r d) es
     ∙ ap (λ x. parts (signal_of cell (codes "Q")) (signal_of cell (codes "E")) x d) rs
     ∙ ap (λ x. parts (signal_of cell (codes "Q")) (signal_of cell (codes "E")) (signal_of cell (codes "R")) x) ds

@@ -1,5 +1,5 @@
 -- The multiplexers of a register, pushed one after another.
-use Rattle.std.proofs.Common.{◌≡◌, ℕ, ◌+◌, Bool, true, false, List, [], ◌∷◌, ◌++◌, length, Option, Some, None, if◌then◌else◌, refl, sym, ap, ap₂, subst, ◌∙◌, arith, length-append}
+use Rattle.std.proofs.Common.{◌≡◌, ℕ, ◌+◌, Bool, true, false, [], ◌∷◌, ◌++◌, length, Option, Some, None, if◌then◌else◌, refl, sym, ap, ap₂, subst, ◌∙◌, arith, length-append}
 use Rattle.std.proofs.lemmas.List.{append-nil, append_assoc}
 use Rattle.cs_base.specs.declared.signal.Signal.{Signal}
 use Rattle.cs_cells.specs.declared.register.ResetKind.{ResetKind}
@@ -71,8 +71,8 @@ goes_on : (step : Chain → Chain) → ((c : Chain) → step c ≡ joined c (ste
     → IsPushed middle (step (no_chain (length middle.pieces) last)) new end → IsPushed old (step c) new end
 goes_on step joins old middle new c last end first start next =
     let there : no_chain (length middle.pieces) last ≡ rest_of c =
-        ap₂ no_chain (ap (λ (p : Parts). length p.pieces) start.0 ∙ length-append old.pieces c.pieces
-        ∙ ap (λ n. n + length c.pieces) (sym first)) start.1 in
+    ap₂ no_chain (ap (λ (p : Parts). length p.pieces) start.0 ∙ length-append old.pieces c.pieces
+    ∙ ap (λ n. n + length c.pieces) (sym first)) start.1 in
     let more = step (rest_of c) in (
       next.0 ∙ ap (λ d. with_pieces middle (step d).pieces) there ∙ ap (λ p. with_pieces p more.pieces) start.0
           ∙ ap (λ pieces. let p : Parts = record { pieces = pieces; wires = old.wires } in p) (append_assoc old.pieces c.pieces more.pieces)
@@ -108,8 +108,8 @@ pub reset_then_enable : (net : Net) (source : Source) (pins : RegisterPins) (old
 reset_then_enable net source pins old middle new d last end over start next =
     let at_d = no_chain (length old.pieces) d in
     subst (λ (o : Bool). IsPushed old (if o
-      then with_enable net pins.q pins.kind.enable pins.enable (with_reset net pins.kind.reset pins.reset at_d)
-      else with_reset net pins.kind.reset pins.reset (with_enable net pins.q pins.kind.enable pins.enable at_d)) new end)
+    then with_enable net pins.q pins.kind.enable pins.enable (with_reset net pins.kind.reset pins.reset at_d)
+    else with_reset net pins.kind.reset pins.reset (with_enable net pins.q pins.kind.enable pins.enable at_d)) new end)
     (sym over)
     (enable_after net pins.q pins.enable pins.reset pins.kind.enable pins.kind.reset old middle new d last end start next)
 
@@ -121,8 +121,8 @@ pub enable_then_reset : (net : Net) (source : Source) (pins : RegisterPins) (old
 enable_then_reset net source pins old middle new d last end over start next =
     let at_d = no_chain (length old.pieces) d in
     subst (λ (o : Bool). IsPushed old (if o
-      then with_enable net pins.q pins.kind.enable pins.enable (with_reset net pins.kind.reset pins.reset at_d)
-      else with_reset net pins.kind.reset pins.reset (with_enable net pins.q pins.kind.enable pins.enable at_d)) new end)
+    then with_enable net pins.q pins.kind.enable pins.enable (with_reset net pins.kind.reset pins.reset at_d)
+    else with_reset net pins.kind.reset pins.reset (with_enable net pins.q pins.kind.enable pins.enable at_d)) new end)
     (sym over)
     (reset_after net pins.q pins.enable pins.reset pins.kind.enable pins.kind.reset old middle new d last end start next)
 

@@ -1,12 +1,12 @@
 -- Parts that are pushed one after another.
-use Rattle.std.proofs.Common.{◌≡◌, ℕ, zero, suc, ◌+◌, ◌≤◌, List, [], ◌∷◌, ◌++◌, length, drop, map, refl, sym, ap, ap₂, ◌∙◌, arith, length-append}
+use Rattle.std.proofs.Common.{◌≡◌, ℕ, ◌+◌, [], ◌∷◌, ◌++◌, map, refl, ap, ap₂, ◌∙◌}
 use Rattle.std.specs.Prelude.{Result, Ok, Err, IfOk, OnOk}
 use Rattle.std.proofs.lemmas.List.{append-nil, append_assoc}
 use Rattle.cs_modules.specs.Pins.{count_from}
 use Rattle.cs_modules.proofs.Pushed.{one_more_counted}
 use Rattle.cs_lower.specs.declared.taps.Parts.{Parts}
 use Rattle.cs_lower.specs.declared.taps.Piece.{Piece}
-use Rattle.cs_lower.specs.Taps.{both, in_turn, no_parts, with_pieces}
+use Rattle.cs_lower.specs.Taps.{both, no_parts, with_pieces}
 
 -- what follows from what a call promises of its value
 pub if_ok : {T E : Type 0} {P Q : T → Type 0} → ((t : T) → P t → Q t) → (r : Result T E) → IfOk r P → IfOk r Q
@@ -17,33 +17,9 @@ pub on_ok : {T E P Q : Type 0} → (P → Q) → (r : Result T E) → OnOk r P �
 on_ok f (Ok v) h = f h
 on_ok f (Err e) h = tt
 
-pub both_assoc : (a b c : Parts) → both (both a b) c ≡ both a (both b c)
-both_assoc a b c =
-    ap₂ (λ pieces wires. let p : Parts = record { pieces = pieces; wires = wires } in p)
-    (append_assoc a.pieces b.pieces c.pieces) (append_assoc a.wires b.wires c.wires)
-
 pub both_none : (a : Parts) → both a no_parts ≡ a
 both_none a =
     ap₂ (λ pieces wires. let p : Parts = record { pieces = pieces; wires = wires } in p) (append-nil a.pieces) (append-nil a.wires)
-
--- the first of several is pushed
-pub next_part : {A : Type 0} (f : ℕ → A → Parts) (x : A) (xs : List A) (old new : Parts)
-    → new ≡ both old (f (length old.pieces) x)
-    → both new (in_turn f (length new.pieces) xs) ≡ both old (in_turn f (length old.pieces) (x ∷ xs))
-next_part f x xs old new pushed =
-    let here = f (length old.pieces) x in
-    ap (λ (p : Parts). both p (in_turn f (length p.pieces) xs)) pushed
-    ∙ ap (λ n. both (both old here) (in_turn f n xs)) (length-append old.pieces here.pieces)
-    ∙ both_assoc old here (in_turn f (length old.pieces + length here.pieces) xs)
-
--- two parts are pushed, the second behind the first
-pub two_parts : (f : ℕ → Parts) (here : Parts) (old middle new : Parts) → middle ≡ both old here
-    → new ≡ both middle (f (length middle.pieces))
-    → new ≡ both old (both here (f (length old.pieces + length here.pieces)))
-two_parts f here old middle new first second =
-    second ∙ ap (λ (p : Parts). both p (f (length p.pieces))) first
-    ∙ ap (λ n. both (both old here) (f n)) (length-append old.pieces here.pieces)
-    ∙ both_assoc old here (f (length old.pieces + length here.pieces))
 
 -- one vertex more of those that are counted up
 pub piece_pushed : (f : ℕ → Piece) (i : ℕ) (item : Piece) (old parts new : Parts) → item ≡ f i

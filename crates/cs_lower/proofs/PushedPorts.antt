@@ -1,5 +1,5 @@
 -- The ports and the cells of a netlist, as they are pushed.
-use Rattle.std.proofs.Common.{◌≡◌, ◌⊎◌, inl, inr, ℕ, zero, suc, ◌+◌, List, [], ◌∷◌, ◌++◌, length, map, Option, Some, None, append-nil, refl, sym, ap, ap₂, ◌∙◌, arith}
+use Rattle.std.proofs.Common.{◌≡◌, ◌⊎◌, inl, inr, ℕ, ◌+◌, List, [], ◌∷◌, ◌++◌, length, map, Option, append-nil, refl, sym, ap, ap₂, ◌∙◌, arith}
 use Rattle.std.specs.List.{enumerate_from}
 use Rattle.cs_base.specs.declared.signal.Signal.{Signal}
 use Rattle.cs_cells.specs.declared.memory.MemShape.{MemShape}
@@ -42,8 +42,8 @@ ports_are net inputs outputs none host all whole is_in is_out is_none is_host is
     let start : Parts = record { pieces = piece Host [] ∷ []; wires = [] } in
     let first : host ≡ start = is_host ∙ ap (λ p. with_pieces p (piece Host [] ∷ [])) is_none in
     let driven : all ≡ inputs_of inputs =
-        is_all ∙ ap (λ (p : Parts). both p (in_turn input_part (length p.pieces) inputs)) first
-        ∙ ap (both start) (inputs_in_turn 1 inputs) in
+    is_all ∙ ap (λ (p : Parts). both p (in_turn input_part (length p.pieces) inputs)) first
+    ∙ ap (both start) (inputs_in_turn 1 inputs) in
     is_whole
     ∙ ap₂ (λ p signals. with_pieces p (outputs_of signals)) (driven ∙ ap inputs_of is_in) is_out
     ∙ ap (λ wires. let p : Parts = record { pieces = (input_parts net).pieces ++ (output_parts net).pieces; wires = wires } in p)

@@ -1,22 +1,20 @@
 -- Where a pin of a netlist's vertex leads, there is a vertex with that output; and ring buffers read registers.
 use Rattle.std.specs.Prelude.{◌==◌, ◌&&◌, slice_get, nat_le}
-use Rattle.std.proofs.Common.{◌≡◌, ℕ, zero, suc, ◌+◌, ◌<◌, Bool, true, false, cond, List, [], ◌∷◌, ◌++◌, length, map, Option, Some, None, filter, filter_map, find, option_map, unwrap_or, refl, sym, ap, subst, ◌∙◌, arith, inl, inr}
+use Rattle.std.proofs.Common.{◌≡◌, ℕ, zero, suc, ◌+◌, ◌<◌, Bool, true, false, cond, List, [], ◌∷◌, ◌++◌, length, map, Option, Some, None, filter, filter_map, find, option_map, unwrap_or, refl, sym, ap, ◌∙◌, arith}
 use Rattle.std.specs.List.{AllByRecursion, list_all, list_any, position_from}
-use Rattle.std.proofs.lemmas.Bool.{cases_Bool}
 use Rattle.std.proofs.lemmas.Option.{none-some, same_Some, slice_get-map}
 use Rattle.cs_base.specs.declared.signal.Signal.{Signal}
 use Rattle.cs_base.specs.declared.signal.Signal.TheVariants.{Zero, One, Unknown, HighZ, Bit}
 use Rattle.cs_graph.specs.declared.source.OpenVertex.{OpenVertex}
 use Rattle.cs_graph.specs.Draft.{open_kinds}
 use Rattle.cs_graph.specs.Invariant.{HasOutput}
-use Rattle.cs_graph.specs.Kinds.{output_count}
 use Rattle.cs_modules.specs.Signals.{is_bit, number_in}
 use Rattle.cs_net.specs.Invariant.{IsWellFormed}
 use Rattle.cs_net.specs.Netlist.{Net}
 use Rattle.cs_net.proofs.Members.{of_all, within_has}
 use Rattle.cs_lower.specs.Followed.{End, Trail, at_bit, at_vertex, behind_bit, behind_wire, by_ring, followed, from_signal, from_tap}
 use Rattle.cs_lower.specs.Lowered.{buffer, constants, draft_of, pieces_of, trail_of, vertex_of, wiring_of}
-use Rattle.cs_lower.specs.Rings.{bit_behind, in_order, in_place, is_ring, met, met_behind, rings}
+use Rattle.cs_lower.specs.Rings.{bit_behind, in_order, in_place, is_ring, met, rings}
 use Rattle.cs_lower.specs.declared.taps.Tap.{Tap}
 use Rattle.cs_lower.specs.declared.taps.Tap.TheVariants.{Constant as of_bit, Register as of_register, Signal as of_signal, Vertex as of_vertex}
 use Rattle.cs_lower.specs.declared.taps.Wire.{Wire}

@@ -13,7 +13,6 @@ use std::alloc::{AllocError, Global};
 use std::marker::Model;
 
 // Pushes what the read ports of a memory drive.
-#[tactic(auto, using(crate::proofs::DrivenLemmas::memory_data))]
 fn push_read_data(
     signals: &mut Vec<Signal>,
     cell: &Cell,
@@ -131,7 +130,11 @@ impl<'a> DrivenBits<'a> {
         ensures { result ≡ still self.now signal }
     {
         match signal {
-            Signal::Bit(bit) => if self.numbers.contains(&bit.get()) { None } else { Some(false) },
+            Signal::Bit(bit) => if self.numbers.contains(&bit.get()) {
+                None
+            } else {
+                Some(false)
+            },
             Signal::One => Some(true),
             Signal::Zero => Some(false),
             Signal::Unknown => Some(false),

@@ -43,7 +43,13 @@ fn drive_data(parts: &mut Parts, bits: &[Signal], vertex: usize) -> Result<(), A
     ensures { OnOk result (parts.new ≡ both parts.old (read_wires vertex (enumerate_from 0 bits.now))) }
 {
     for (place, bit) in bits.iter().enumerate() {
-        parts.drive(*bit, Wire::Vertex { vertex, output: place })?;
+        parts.drive(
+            *bit,
+            Wire::Vertex {
+                vertex,
+                output: place,
+            },
+        )?;
     }
     Ok(())
 }
@@ -56,7 +62,12 @@ fn read_kind(read: &ReadShape, place: usize) -> FfKind
         rising: true,
         reset: Some(ResetKind {
             high: true,
-            value: read.reset_value.as_slice().get(place).copied().unwrap_or(false),
+            value: read
+                .reset_value
+                .as_slice()
+                .get(place)
+                .copied()
+                .unwrap_or(false),
         }),
         enable: Some(true),
         enable_over_reset: read.enable_over_reset,
@@ -95,10 +106,14 @@ fn push_held_bit(
     q: Signal,
 ) -> Result<(), AllocError>
     ensures { OnOk result (parts.new ≡ both parts.old
-        (held_parts net.now memory.now.cell.now memory.now.shape.now (port, read.now) vertex (length parts.old.pieces) (place, q))) }
+        (held_parts net.now memory.now.cell.now memory.now.shape.now (port, read.now) vertex
+        (length parts.old.pieces) (place, q))) }
 {
     let pins = read_pins(memory.cell, port, read, place, q);
-    let tap = Tap::Vertex { vertex, output: place };
+    let tap = Tap::Vertex {
+        vertex,
+        output: place,
+    };
     push_register(alloc, parts, net, &pins, tap)
 }
 
@@ -168,7 +183,8 @@ fn push_read(
 ) -> Result<(), AllocError>
     requires { port < 2 ^ 32 }
     ensures { OnOk result (parts.new ≡ both parts.old
-        (read_parts net.now memory.now.id memory.now.cell.now memory.now.shape.now (length parts.old.pieces) (port, read.now))) }
+        (read_parts net.now memory.now.id memory.now.cell.now memory.now.shape.now
+        (length parts.old.pieces) (port, read.now))) }
 {
     let piece = read_piece(alloc, memory, port)?;
     let vertex = parts.push(piece)?;

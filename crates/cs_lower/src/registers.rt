@@ -113,7 +113,14 @@ fn push_reset(
         Some(reset) => if is_never(reset.high, net.still(pins.reset)) {
             Ok(last)
         } else {
-            push_mux(alloc, parts, reset.high, last, Tap::Constant(reset.value), pins.reset)
+            push_mux(
+                alloc,
+                parts,
+                reset.high,
+                last,
+                Tap::Constant(reset.value),
+                pins.reset,
+            )
         },
     }
 }
@@ -127,7 +134,8 @@ fn push_chain(
     d: Tap,
 ) -> Result<Tap, AllocError>
     ensures { IfOk result (λ last. (source : Source)
-        → IsPushed parts.old (register_chain net.now (length parts.old.pieces) pins.now.q (element_of source pins.now) d) parts.new last) }
+        → IsPushed parts.old
+        (register_chain net.now (length parts.old.pieces) pins.now.q (element_of source pins.now) d) parts.new last) }
 {
     if pins.kind.enable_over_reset {
         let last = push_reset(alloc, parts, net, pins, d)?;
@@ -147,7 +155,8 @@ pub(crate) fn push_register(
     d: Tap,
 ) -> Result<(), AllocError>
     ensures { OnOk result ((source : Source)
-        → parts.new ≡ both parts.old (register_parts net.now (length parts.old.pieces) pins.now.q (element_of source pins.now) d)) }
+        → parts.new ≡ both parts.old
+        (register_parts net.now (length parts.old.pieces) pins.now.q (element_of source pins.now) d)) }
 {
     let last = push_chain(alloc, parts, net, pins, d)?;
     parts.drive(pins.q, Wire::Register(last))

@@ -11,10 +11,7 @@ use std::collections::HashMap;
 use std::marker::Model;
 
 // The first wire of each bit.
-fn first_wires(
-    alloc: Global,
-    wires: &[(Signal, Wire)],
-) -> Result<HashMap<u32, Wire>, AllocError>
+fn first_wires(alloc: Global, wires: &[(Signal, Wire)]) -> Result<HashMap<u32, Wire>, AllocError>
     ensures { IfOk result (λ firsts. (b : ℕ) → get nat_eq firsts b ≡ first_wire wires.now b) }
 {
     let mut firsts = HashMap::new(alloc);

@@ -1,4 +1,4 @@
-use Rattle.std.proofs.Common.{◌≡◌, ◌++◌, map}
+use Rattle.std.proofs.Common.{◌≡◌, ◌++◌}
 use Rattle.std.specs.List.{zip}
 use Rattle.cs_net.specs.Drivers.{data_inputs}
 use Rattle.cs_lower.proofs.DrivenLemmas.{outputs_of}
