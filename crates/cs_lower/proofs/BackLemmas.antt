@@ -6,7 +6,7 @@ use Rattle.std.proofs.lemmas.Bool.{cases_Bool, cases_lt, eq-eqb, eqb-true, le-le
 use Rattle.std.proofs.lemmas.Option.{none-some, same_Some}
 use Rattle.cs_base.specs.declared.signal.Signal.{Signal}
 use Rattle.cs_lower.specs.Rings.{bit_behind, met}
-use Rattle.cs_lower.specs.Taps.{Wire}
+use Rattle.cs_lower.specs.declared.taps.Wire.{Wire}
 use Rattle.cs_lower.specs.Wires.{wire_in}
 
 -- the bit behind so many registers

@@ -10,7 +10,9 @@ use Rattle.cs_cells.specs.Registers.{is_active, next_value, value_with_enable, v
 use Rattle.cs_net.specs.Drivers.{StateElement}
 use Rattle.cs_net.specs.Netlist.{Net}
 use Rattle.cs_lower.specs.Registers.{Chain, always, mux, never, register_chain, still, with_enable, with_piece, with_reset}
-use Rattle.cs_lower.specs.Taps.{Piece, Tap, of_bit, of_signal, of_vertex}
+use Rattle.cs_lower.specs.declared.taps.Tap.{Tap}
+use Rattle.cs_lower.specs.declared.taps.Tap.TheVariants.{Constant as of_bit, Signal as of_signal, Vertex as of_vertex}
+use Rattle.cs_lower.specs.declared.taps.Piece.{Piece}
 
 -- ---- what taps show at one clock
 

@@ -14,7 +14,9 @@ use Rattle.cs_net.proofs.Members.{of_all}
 use Rattle.cs_net.proofs.MemoryPlaces.{map_at}
 use Rattle.cs_lower.specs.Followed.{End, at_bit, at_vertex}
 use Rattle.cs_lower.specs.Lowered.{constant_number, constant_source, constants, draft_of, is_used, is_value, lowered, needs_constant, passes_some, pieces_of, source_by, source_of, trail_of, vertex_of}
-use Rattle.cs_lower.specs.Taps.{Piece, Tap, piece}
+use Rattle.cs_lower.specs.declared.taps.Tap.{Tap}
+use Rattle.cs_lower.specs.declared.taps.Piece.{Piece}
+use Rattle.cs_lower.specs.Taps.{piece}
 use Rattle.cs_lower.proofs.FittingNets.{part_fits}
 use Rattle.cs_lower.proofs.FittingParts.{IsBefore}
 use Rattle.cs_lower.proofs.Levels.{known}

@@ -19,7 +19,10 @@ use Rattle.cs_net.specs.Netlist.{Net}
 use Rattle.cs_net.proofs.PinWidths.{length-count_from}
 use Rattle.cs_lower.specs.Cells.{Placed, cell_parts, class_parts, data_parts, gate_parts, held_parts, memory_parts, read_parts, read_wires, write_parts, write_piece}
 use Rattle.cs_lower.specs.Lowered.{draft_of}
-use Rattle.cs_lower.specs.Taps.{Parts, Piece, in_turn, of_signal, of_vertex, piece}
+use Rattle.cs_lower.specs.declared.taps.Tap.TheVariants.{Signal as of_signal, Vertex as of_vertex}
+use Rattle.cs_lower.specs.declared.taps.Piece.{Piece}
+use Rattle.cs_lower.specs.declared.taps.Parts.{Parts}
+use Rattle.cs_lower.specs.Taps.{in_turn, piece}
 use Rattle.cs_lower.specs.Wires.{parts_of}
 use Rattle.cs_lower.proofs.FittingParts.{FitFrom, Fits, Gives, IsBefore, IsThere, PartsFit, fit_both, fit_in_turn, register_fits, signals_before}
 use Rattle.cs_lower.proofs.MatchLists.{StandsIn}

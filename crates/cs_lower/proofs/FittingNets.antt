@@ -21,7 +21,12 @@ use Rattle.cs_net.proofs.Members.{within_has}
 use Rattle.cs_net.proofs.PinWidths.{pin_is_wide}
 use Rattle.cs_lower.specs.Cells.{Placed, cell_parts, placed_cells}
 use Rattle.cs_lower.specs.Lowered.{draft_of, memory_of}
-use Rattle.cs_lower.specs.Taps.{Parts, Piece, Wire, from_vertex, in_turn, of_signal, piece}
+use Rattle.cs_lower.specs.declared.taps.Tap.TheVariants.{Signal as of_signal}
+use Rattle.cs_lower.specs.declared.taps.Wire.{Wire}
+use Rattle.cs_lower.specs.declared.taps.Wire.TheVariants.{Vertex as from_vertex}
+use Rattle.cs_lower.specs.declared.taps.Piece.{Piece}
+use Rattle.cs_lower.specs.declared.taps.Parts.{Parts}
+use Rattle.cs_lower.specs.Taps.{in_turn, piece}
 use Rattle.cs_lower.specs.Wires.{input_parts, output_parts, parts_of, port_parts}
 use Rattle.cs_lower.proofs.FittingCells.{CellHasSizes, cell_fits}
 use Rattle.cs_lower.proofs.FittingParts.{FitFrom, Fits, IsThere, PartsFit, fit_both, fit_in_turn}

@@ -12,7 +12,13 @@ use Rattle.cs_net.specs.Netlist.{Net}
 use Rattle.cs_net.proofs.Members.{append_all}
 use Rattle.cs_lower.specs.Lowered.{draft_of}
 use Rattle.cs_lower.specs.Registers.{Chain, always, mux, never, register_chain, register_parts, still, with_enable, with_piece, with_reset}
-use Rattle.cs_lower.specs.Taps.{Parts, Piece, Tap, Wire, both, from_register, from_vertex, in_turn, of_bit, of_register, of_signal, of_vertex, undriven}
+use Rattle.cs_lower.specs.declared.taps.Tap.{Tap}
+use Rattle.cs_lower.specs.declared.taps.Tap.TheVariants.{Constant as of_bit, Register as of_register, Signal as of_signal, Vertex as of_vertex}
+use Rattle.cs_lower.specs.declared.taps.Wire.{Wire}
+use Rattle.cs_lower.specs.declared.taps.Wire.TheVariants.{Register as from_register, Vertex as from_vertex, Undriven as undriven}
+use Rattle.cs_lower.specs.declared.taps.Piece.{Piece}
+use Rattle.cs_lower.specs.declared.taps.Parts.{Parts}
+use Rattle.cs_lower.specs.Taps.{both, in_turn}
 use Rattle.cs_lower.specs.Wires.{parts_of}
 use Rattle.cs_lower.proofs.MatchLists.{StandsIn}
 use Rattle.cs_lower.proofs.StandLemmas.{part_first, part_left, part_right}

@@ -11,7 +11,10 @@ use Rattle.cs_base.specs.declared.signal.Signal.TheVariants.{Zero, One, Unknown,
 use Rattle.cs_modules.specs.Signals.{number_in}
 use Rattle.cs_lower.specs.Followed.{Trail, Wiring, at_bit, at_vertex, behind_bit, behind_wire, by_ring, ends, followed, from_tap, past}
 use Rattle.cs_lower.specs.Rings.{bit_at_tap, bit_behind, met, rings}
-use Rattle.cs_lower.specs.Taps.{Tap, Wire, from_register, from_vertex, of_bit, of_register, of_signal, of_vertex, undriven}
+use Rattle.cs_lower.specs.declared.taps.Tap.{Tap}
+use Rattle.cs_lower.specs.declared.taps.Tap.TheVariants.{Constant as of_bit, Register as of_register, Signal as of_signal, Vertex as of_vertex}
+use Rattle.cs_lower.specs.declared.taps.Wire.{Wire}
+use Rattle.cs_lower.specs.declared.taps.Wire.TheVariants.{Register as from_register, Vertex as from_vertex, Undriven as undriven}
 use Rattle.cs_lower.specs.Wires.{wire_in}
 use Rattle.cs_lower.proofs.BackLemmas.{ComesAgain, back, back_join, distinct_or_again, met_is_reached}
 use Rattle.cs_lower.proofs.PlainWires.{ArePlain, IsPlain, plain_behind}

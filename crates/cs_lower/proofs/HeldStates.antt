@@ -13,7 +13,7 @@ use Rattle.cs_net.specs.Trace.{IsTrace, Settles, next_state, writes_at}
 use Rattle.cs_net.proofs.MemoryFacts.{are_places}
 use Rattle.cs_net.proofs.MemoryWidths.{memory_wide}
 use Rattle.cs_lower.specs.Lowered.{lowered, memory_of}
-use Rattle.cs_lower.specs.Taps.{of_register}
+use Rattle.cs_lower.specs.declared.taps.Tap.TheVariants.{Register as of_register}
 use Rattle.cs_lower.proofs.MemoryCells.{IsMemory, given_by_name, memory_there}
 use Rattle.cs_lower.proofs.NextLemmas.{next_taken}
 use Rattle.cs_lower.proofs.PaddedWords.{IsPadded, starts_padded, stays_padded}

@@ -13,7 +13,7 @@ use Rattle.cs_net.specs.Trace.{Answers, Valuation, output_row, output_rows}
 use Rattle.cs_net.proofs.Answering.{same_answer}
 use Rattle.cs_lower.specs.Alike.{AnswersAlike}
 use Rattle.cs_lower.specs.Lowered.{lowered}
-use Rattle.cs_lower.specs.Taps.{of_signal}
+use Rattle.cs_lower.specs.declared.taps.Tap.TheVariants.{Signal as of_signal}
 use Rattle.cs_lower.proofs.HeldStates.{state_of_run, trace_of_run}
 use Rattle.cs_lower.proofs.SeenLemmas.{shows}
 use Rattle.cs_lower.proofs.SeenMemories.{taps_of_signals}

@@ -16,7 +16,11 @@ use Rattle.cs_net.proofs.Members.{of_all}
 use Rattle.cs_net.proofs.MemoryPlaces.{map_at}
 use Rattle.cs_lower.specs.Lowered.{buffer, constants, is_used, pieces_of, wiring_of}
 use Rattle.cs_lower.specs.Matching.{IsVertex, Matches}
-use Rattle.cs_lower.specs.Taps.{Piece, Tap, from_vertex, of_bit, of_register, of_signal, of_vertex, piece}
+use Rattle.cs_lower.specs.declared.taps.Tap.{Tap}
+use Rattle.cs_lower.specs.declared.taps.Tap.TheVariants.{Constant as of_bit, Register as of_register, Signal as of_signal, Vertex as of_vertex}
+use Rattle.cs_lower.specs.declared.taps.Wire.TheVariants.{Vertex as from_vertex}
+use Rattle.cs_lower.specs.declared.taps.Piece.{Piece}
+use Rattle.cs_lower.specs.Taps.{piece}
 use Rattle.cs_lower.specs.Wires.{parts_of}
 use Rattle.cs_lower.proofs.FittingNets.{part_fits}
 use Rattle.cs_lower.proofs.FittingParts.{IsBefore}

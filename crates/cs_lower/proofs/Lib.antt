@@ -46,3 +46,9 @@ pub mod PortNumbers
 pub mod PortsInOrder
 pub mod ReadWidths
 pub mod LoweredMachine
+mod DrivenLemmas
+mod PushedChains
+mod PushedParts
+mod PushedCells
+mod FewReads
+mod PushedPorts

@@ -14,7 +14,8 @@ use Rattle.cs_net.specs.Invariant.{IsWellFormed}
 use Rattle.cs_net.specs.Netlist.{Net}
 use Rattle.cs_net.proofs.MemoryPlaces.{map_at}
 use Rattle.cs_lower.specs.Lowered.{constants, draft_of, lowered, pieces_of, source_of, vertex_of}
-use Rattle.cs_lower.specs.Taps.{Piece, piece}
+use Rattle.cs_lower.specs.declared.taps.Piece.{Piece}
+use Rattle.cs_lower.specs.Taps.{piece}
 use Rattle.cs_lower.proofs.DraftMemories.{each_memory, few_memories}
 use Rattle.cs_lower.proofs.DraftOutputs.{draft_outputs}
 use Rattle.cs_lower.proofs.FittingNets.{part_fits}

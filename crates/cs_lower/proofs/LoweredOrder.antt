@@ -19,7 +19,11 @@ use Rattle.cs_net.proofs.MemoryPlaces.{map_at}
 use Rattle.cs_lower.specs.Followed.{End, Trail, at_bit, at_vertex, behind_wire, ends}
 use Rattle.cs_lower.specs.Lowered.{buffer, constant_source, constants, draft_of, lowered, pieces_of, source_by, source_of, trail_of, vertex_of, wiring_of}
 use Rattle.cs_lower.specs.Matching.{Matches}
-use Rattle.cs_lower.specs.Taps.{Piece, Tap, Wire, from_register, from_vertex, of_bit, of_register, of_signal, of_vertex, undriven}
+use Rattle.cs_lower.specs.declared.taps.Tap.{Tap}
+use Rattle.cs_lower.specs.declared.taps.Tap.TheVariants.{Constant as of_bit, Register as of_register, Signal as of_signal, Vertex as of_vertex}
+use Rattle.cs_lower.specs.declared.taps.Wire.{Wire}
+use Rattle.cs_lower.specs.declared.taps.Wire.TheVariants.{Register as from_register, Vertex as from_vertex, Undriven as undriven}
+use Rattle.cs_lower.specs.declared.taps.Piece.{Piece}
 use Rattle.cs_lower.specs.Wires.{parts_of, wire_in}
 use Rattle.cs_lower.proofs.FittingNets.{part_fits}
 use Rattle.cs_lower.proofs.FittingParts.{IsBefore}

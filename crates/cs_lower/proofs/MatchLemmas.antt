@@ -25,7 +25,12 @@ use Rattle.cs_net.proofs.MemoryFacts.{memory_name}
 use Rattle.cs_lower.specs.Cells.{Datum, Placed, cell_parts, class_parts, data_parts, held_parts, memory_parts, placed_cells, read_parts, read_wires, write_parts}
 use Rattle.cs_lower.specs.Matching.{AreNamedInOrder, IsNamed, IsSource, IsVertex, Matches, ReadsWord, TakesFrom}
 use Rattle.cs_lower.specs.Registers.{register_chain, register_parts}
-use Rattle.cs_lower.specs.Taps.{Parts, Piece, Tap, from_vertex, in_turn, of_signal, of_vertex, piece}
+use Rattle.cs_lower.specs.declared.taps.Tap.{Tap}
+use Rattle.cs_lower.specs.declared.taps.Tap.TheVariants.{Signal as of_signal, Vertex as of_vertex}
+use Rattle.cs_lower.specs.declared.taps.Wire.TheVariants.{Vertex as from_vertex}
+use Rattle.cs_lower.specs.declared.taps.Piece.{Piece}
+use Rattle.cs_lower.specs.declared.taps.Parts.{Parts}
+use Rattle.cs_lower.specs.Taps.{in_turn, piece}
 use Rattle.cs_lower.specs.Wires.{input_parts, output_parts, parts_of, port_parts, wire_in}
 use Rattle.cs_lower.proofs.MatchLists.{AreMatched, StandsIn, found_match, matched_append, matched_in_turn}
 use Rattle.cs_lower.proofs.StandLemmas.{part_first, part_is, part_left, part_next, part_right}

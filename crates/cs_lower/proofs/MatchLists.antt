@@ -8,7 +8,11 @@ use Rattle.cs_modules.specs.Signals.{is_bit}
 use Rattle.cs_net.specs.Drivers.{DrivenSignal, Driver, undriven as driven_by_none}
 use Rattle.cs_net.specs.Netlist.{Net}
 use Rattle.cs_lower.specs.Matching.{Matches}
-use Rattle.cs_lower.specs.Taps.{Parts, Piece, Wire, in_turn, undriven}
+use Rattle.cs_lower.specs.declared.taps.Wire.{Wire}
+use Rattle.cs_lower.specs.declared.taps.Wire.TheVariants.{Undriven as undriven}
+use Rattle.cs_lower.specs.declared.taps.Piece.{Piece}
+use Rattle.cs_lower.specs.declared.taps.Parts.{Parts}
+use Rattle.cs_lower.specs.Taps.{in_turn}
 use Rattle.cs_lower.specs.Wires.{parts_of}
 use Rattle.cs_lower.proofs.StandLemmas.{IsPart, part_left, part_right}
 

@@ -20,7 +20,8 @@ use Rattle.cs_net.proofs.MemoryFacts.{memory_count, memory_name, shape_count}
 use Rattle.cs_net.proofs.Members.{within_has}
 use Rattle.cs_net.proofs.MemoryPlaces.{at_map}
 use Rattle.cs_lower.specs.Lowered.{constants, draft_of, memory_of, pieces_of}
-use Rattle.cs_lower.specs.Taps.{Tap, of_signal}
+use Rattle.cs_lower.specs.declared.taps.Tap.{Tap}
+use Rattle.cs_lower.specs.declared.taps.Tap.TheVariants.{Signal as of_signal}
 use Rattle.cs_lower.proofs.WriteValues.{given, given_writes}
 
 -- ---- shapes by their numbers

@@ -13,7 +13,7 @@ use Rattle.cs_net.specs.declared.netlist.Cell.{Cell}
 use Rattle.cs_net.specs.Netlist.{Net}
 use Rattle.cs_lower.specs.Cells.{Placed, placed_cells, write_piece}
 use Rattle.cs_lower.specs.Lowered.{lowered}
-use Rattle.cs_lower.specs.Taps.{Tap}
+use Rattle.cs_lower.specs.declared.taps.Tap.{Tap}
 use Rattle.cs_lower.proofs.PlacedCells.{IsOfMemory, made_of_one}
 use Rattle.cs_lower.proofs.SeenLemmas.{shows}
 use Rattle.cs_lower.proofs.SeenSinks.{given_by, writes_show}

@@ -13,7 +13,12 @@ use Rattle.cs_net.specs.Drivers.{StateElement, data_inputs, read_data, read_elem
 use Rattle.cs_net.specs.Netlist.{Net}
 use Rattle.cs_lower.specs.Cells.{Datum, Placed, cell_parts, class_parts, data_parts, held_parts, memory_parts, placed_cells, read_parts, read_wires}
 use Rattle.cs_lower.specs.Registers.{Chain, always, mux, never, register_chain, register_parts, still, with_enable, with_piece, with_reset}
-use Rattle.cs_lower.specs.Taps.{Parts, Piece, Tap, from_vertex, in_turn, of_bit, of_signal, of_vertex}
+use Rattle.cs_lower.specs.declared.taps.Tap.{Tap}
+use Rattle.cs_lower.specs.declared.taps.Tap.TheVariants.{Constant as of_bit, Signal as of_signal, Vertex as of_vertex}
+use Rattle.cs_lower.specs.declared.taps.Wire.TheVariants.{Vertex as from_vertex}
+use Rattle.cs_lower.specs.declared.taps.Piece.{Piece}
+use Rattle.cs_lower.specs.declared.taps.Parts.{Parts}
+use Rattle.cs_lower.specs.Taps.{in_turn}
 use Rattle.cs_lower.specs.Wires.{input_parts, parts_of, port_parts}
 use Rattle.cs_lower.proofs.PlainWires.{ArePlain, IsPlain, plain_append}
 

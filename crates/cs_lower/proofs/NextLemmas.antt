@@ -9,7 +9,8 @@ use Rattle.cs_net.specs.Netlist.{Net, NetState}
 use Rattle.cs_net.specs.Trace.{Row, Settles, Valuation, next_bit, signal_value, source_value, value_by}
 use Rattle.cs_lower.specs.Matching.{IsSource, ReadsWord, TakesFrom}
 use Rattle.cs_lower.specs.Registers.{still, still_driver}
-use Rattle.cs_lower.specs.Taps.{Tap, of_bit, of_signal, of_vertex}
+use Rattle.cs_lower.specs.declared.taps.Tap.{Tap}
+use Rattle.cs_lower.specs.declared.taps.Tap.TheVariants.{Constant as of_bit, Signal as of_signal, Vertex as of_vertex}
 use Rattle.cs_lower.proofs.ChainLemmas.{ShowsConstants}
 use Rattle.cs_lower.proofs.TakenLemmas.{ShowsGates, taken_value}
 

@@ -15,7 +15,8 @@ use Rattle.cs_net.specs.Drivers.{data_inputs}
 use Rattle.cs_net.specs.Netlist.{Net}
 use Rattle.cs_lower.specs.Cells.{cell_parts, placed_cells}
 use Rattle.cs_lower.specs.Lowered.{buffer, constants, lowered, pieces_of, wiring_of}
-use Rattle.cs_lower.specs.Taps.{Piece, in_turn, piece}
+use Rattle.cs_lower.specs.declared.taps.Piece.{Piece}
+use Rattle.cs_lower.specs.Taps.{in_turn, piece}
 use Rattle.cs_lower.specs.Wires.{input_parts, output_parts, parts_of, port_parts}
 use Rattle.cs_lower.proofs.Places.{get_left}
 use Rattle.cs_lower.proofs.SeenLemmas.{PieceAt, gives, piece_at, sees, shows}

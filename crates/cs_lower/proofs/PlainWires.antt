@@ -3,7 +3,10 @@ use Rattle.std.proofs.Common.{◌≡◌, ℕ, Bool, true, false, cond, List, [],
 use Rattle.std.specs.List.{AllByRecursion}
 use Rattle.cs_base.specs.declared.signal.Signal.{Signal}
 use Rattle.cs_modules.specs.Signals.{is_bit}
-use Rattle.cs_lower.specs.Taps.{Tap, Wire, from_register, from_vertex, of_bit, of_register, of_signal, of_vertex, undriven}
+use Rattle.cs_lower.specs.declared.taps.Tap.{Tap}
+use Rattle.cs_lower.specs.declared.taps.Tap.TheVariants.{Constant as of_bit, Register as of_register, Signal as of_signal, Vertex as of_vertex}
+use Rattle.cs_lower.specs.declared.taps.Wire.{Wire}
+use Rattle.cs_lower.specs.declared.taps.Wire.TheVariants.{Register as from_register, Vertex as from_vertex, Undriven as undriven}
 use Rattle.cs_lower.specs.Wires.{wire_in}
 
 -- a tap that is no register

@@ -10,7 +10,7 @@ use Rattle.cs_graph.specs.declared.vertex.VertexKind.{VertexKind}
 use Rattle.cs_graph.specs.declared.vertex.VertexKind.TheVariants.{Constant, Gate, Host, Input, Output, Read, Write}
 use Rattle.cs_graph.specs.Invariant.{IsNextPort}
 use Rattle.cs_graph.specs.Kinds.{is_read_of, is_write_of}
-use Rattle.cs_lower.specs.Taps.{Piece}
+use Rattle.cs_lower.specs.declared.taps.Piece.{Piece}
 
 -- the kinds of vertices
 abbrev pub kinds_of : List Piece → List VertexKind

@@ -19,7 +19,11 @@ use Rattle.cs_net.proofs.Members.{append_all}
 use Rattle.cs_lower.specs.Cells.{cell_parts, class_parts, data_parts, held_parts, memory_parts, placed_cells, read_parts, read_wires, write_parts, write_piece}
 use Rattle.cs_lower.specs.Lowered.{buffer, constants, is_used, pieces_of, wiring_of}
 use Rattle.cs_lower.specs.Registers.{register_chain, register_parts}
-use Rattle.cs_lower.specs.Taps.{Parts, Piece, Tap, in_turn, of_signal, of_vertex, piece}
+use Rattle.cs_lower.specs.declared.taps.Tap.{Tap}
+use Rattle.cs_lower.specs.declared.taps.Tap.TheVariants.{Signal as of_signal, Vertex as of_vertex}
+use Rattle.cs_lower.specs.declared.taps.Piece.{Piece}
+use Rattle.cs_lower.specs.declared.taps.Parts.{Parts}
+use Rattle.cs_lower.specs.Taps.{in_turn, piece}
 use Rattle.cs_lower.specs.Wires.{input_parts, output_parts, parts_of, port_parts}
 use Rattle.cs_lower.proofs.PlacedCells.{placed, placed_from}
 use Rattle.cs_lower.proofs.PortNumbers.{AreNext, HasNoPort, HaveNoPorts, IsBelow, IsOfMemory, below_append, below_more, kinds_of, next_append, one_below, one_read, one_write, plain_below, plain_next, plain_of_memory, plain_reads, plain_writes, reads_append, reads_in, writes_append, writes_in}

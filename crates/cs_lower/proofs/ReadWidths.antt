@@ -21,7 +21,9 @@ use Rattle.cs_net.specs.Netlist.{Net}
 use Rattle.cs_lower.specs.Cells.{Placed, cell_parts, class_parts, data_parts, gate_parts, memory_parts, placed_cells, read_parts, write_parts, write_piece}
 use Rattle.cs_lower.specs.Lowered.{buffer, constants, draft_of, is_used, pieces_of, wiring_of}
 use Rattle.cs_lower.specs.Registers.{register_parts}
-use Rattle.cs_lower.specs.Taps.{Piece, in_turn, of_signal}
+use Rattle.cs_lower.specs.declared.taps.Tap.TheVariants.{Signal as of_signal}
+use Rattle.cs_lower.specs.declared.taps.Piece.{Piece}
+use Rattle.cs_lower.specs.Taps.{in_turn}
 use Rattle.cs_lower.specs.Wires.{parts_of, port_parts}
 use Rattle.cs_lower.proofs.DraftMemories.{has_few}
 use Rattle.cs_lower.proofs.FittingNets.{all_by_place, words_of}

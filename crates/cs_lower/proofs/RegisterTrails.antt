@@ -8,7 +8,9 @@ use Rattle.cs_net.specs.Netlist.{Net}
 use Rattle.cs_lower.specs.Followed.{at_bit, at_vertex, behind_wire}
 use Rattle.cs_lower.specs.Lowered.{trail_of, wiring_of}
 use Rattle.cs_lower.specs.Meaning.{shown}
-use Rattle.cs_lower.specs.Taps.{Tap, from_register, from_vertex, of_register, of_signal, undriven}
+use Rattle.cs_lower.specs.declared.taps.Tap.{Tap}
+use Rattle.cs_lower.specs.declared.taps.Tap.TheVariants.{Register as of_register, Signal as of_signal}
+use Rattle.cs_lower.specs.declared.taps.Wire.TheVariants.{Register as from_register, Vertex as from_vertex, Undriven as undriven}
 use Rattle.cs_lower.specs.Wires.{wire_in}
 use Rattle.cs_lower.proofs.MeaningLemmas.{shown_ends, shown_past_first, shown_past_next}
 use Rattle.cs_lower.proofs.TrailLemmas.{trail_of_free, trail_of_register, trail_of_ring}

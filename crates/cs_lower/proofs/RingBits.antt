@@ -7,7 +7,9 @@ use Rattle.std.proofs.lemmas.Option.{none-some, same_Some}
 use Rattle.cs_base.specs.declared.signal.Signal.{Signal}
 use Rattle.cs_modules.specs.Signals.{number_in}
 use Rattle.cs_lower.specs.Rings.{bit_behind, is_ring, met, rings}
-use Rattle.cs_lower.specs.Taps.{Tap, Wire, from_register, from_vertex, undriven}
+use Rattle.cs_lower.specs.declared.taps.Tap.{Tap}
+use Rattle.cs_lower.specs.declared.taps.Wire.{Wire}
+use Rattle.cs_lower.specs.declared.taps.Wire.TheVariants.{Register as from_register, Vertex as from_vertex, Undriven as undriven}
 use Rattle.cs_lower.specs.Wires.{wire_in}
 use Rattle.cs_lower.proofs.Places.{any_place}
 use Rattle.cs_lower.proofs.RingLemmas.{ordered}

@@ -8,7 +8,8 @@ use Rattle.cs_base.specs.declared.signal.Signal.{Signal}
 use Rattle.cs_base.specs.declared.signal.Signal.TheVariants.{Zero, One, Unknown, HighZ, Bit}
 use Rattle.cs_modules.specs.Signals.{is_bit, number_in}
 use Rattle.cs_lower.specs.Rings.{bit_behind, in_order, in_place, is_ring, met, rings}
-use Rattle.cs_lower.specs.Taps.{Wire, undriven}
+use Rattle.cs_lower.specs.declared.taps.Wire.{Wire}
+use Rattle.cs_lower.specs.declared.taps.Wire.TheVariants.{Undriven as undriven}
 use Rattle.cs_lower.specs.Wires.{wire_in}
 use Rattle.cs_lower.proofs.BackLemmas.{back, back_join, back_none, least_or_less, reached_is_met}
 

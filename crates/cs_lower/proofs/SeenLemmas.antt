@@ -14,7 +14,9 @@ use Rattle.cs_net.specs.Netlist.{Net}
 use Rattle.cs_lower.specs.Followed.{End, at_bit, at_vertex}
 use Rattle.cs_lower.specs.Lowered.{constant_number, constants, draft_of, is_used, lowered, needs_constant, pieces_of, source_by, source_of, trail_of, vertex_of}
 use Rattle.cs_lower.specs.Meaning.{carried_by, shown}
-use Rattle.cs_lower.specs.Taps.{Piece, Tap, piece}
+use Rattle.cs_lower.specs.declared.taps.Tap.{Tap}
+use Rattle.cs_lower.specs.declared.taps.Piece.{Piece}
+use Rattle.cs_lower.specs.Taps.{piece}
 use Rattle.cs_lower.proofs.MeaningLemmas.{seen_is_shown, shown_ends}
 use Rattle.cs_lower.proofs.NumberedPins.{PinAt, Reads, built_vertex, edge_by}
 use Rattle.cs_lower.proofs.Places.{any_place, get_append, get_right, map_alike}

@@ -19,7 +19,8 @@ use Rattle.cs_net.specs.Netlist.{Net}
 use Rattle.cs_net.specs.Trace.{Valuation, signal_value, write_at}
 use Rattle.cs_lower.specs.Cells.{Placed, placed_cells, write_piece}
 use Rattle.cs_lower.specs.Lowered.{lowered, memory_of}
-use Rattle.cs_lower.specs.Taps.{Tap, of_signal}
+use Rattle.cs_lower.specs.declared.taps.Tap.{Tap}
+use Rattle.cs_lower.specs.declared.taps.Tap.TheVariants.{Signal as of_signal}
 use Rattle.cs_lower.proofs.MemoryWrites.{memory_given, port_writes}
 use Rattle.cs_lower.proofs.PlacedCells.{shape_at}
 use Rattle.cs_lower.proofs.SeenLemmas.{shows}

@@ -19,7 +19,10 @@ use Rattle.cs_net.specs.Drivers.{data_outputs}
 use Rattle.cs_net.specs.Netlist.{Net}
 use Rattle.cs_lower.specs.Cells.{Placed, placed_cells, write_piece}
 use Rattle.cs_lower.specs.Lowered.{constants, draft_of, lowered, pieces_of, vertex_of}
-use Rattle.cs_lower.specs.Taps.{Piece, Tap, of_signal, piece}
+use Rattle.cs_lower.specs.declared.taps.Tap.{Tap}
+use Rattle.cs_lower.specs.declared.taps.Tap.TheVariants.{Signal as of_signal}
+use Rattle.cs_lower.specs.declared.taps.Piece.{Piece}
+use Rattle.cs_lower.specs.Taps.{piece}
 use Rattle.cs_lower.proofs.Places.{flat_map_alike}
 use Rattle.cs_lower.proofs.SeenLemmas.{sees_at, shows}
 use Rattle.cs_lower.proofs.SinkPieces.{IsOfSinks, class_write_pieces, made_of_sinks, write_pieces, write_pieces_of}

@@ -17,7 +17,10 @@ use Rattle.cs_net.specs.Netlist.{Net, NetState}
 use Rattle.cs_net.specs.Trace.{Settles, signal_value, value_by}
 use Rattle.cs_lower.specs.Lowered.{buffer, lowered, memory_of, pieces_of, wiring_of}
 use Rattle.cs_lower.specs.Matching.{IsVertex, Matches, ReadsWord, TakesFrom}
-use Rattle.cs_lower.specs.Taps.{Tap, Wire, from_register, from_vertex, of_register, of_signal, undriven}
+use Rattle.cs_lower.specs.declared.taps.Tap.{Tap}
+use Rattle.cs_lower.specs.declared.taps.Tap.TheVariants.{Register as of_register, Signal as of_signal}
+use Rattle.cs_lower.specs.declared.taps.Wire.{Wire}
+use Rattle.cs_lower.specs.declared.taps.Wire.TheVariants.{Register as from_register, Vertex as from_vertex, Undriven as undriven}
 use Rattle.cs_lower.specs.Wires.{parts_of, wire_in}
 use Rattle.cs_lower.proofs.InputPlaces.{input_place}
 use Rattle.cs_lower.proofs.MatchLemmas.{matches, well_named}

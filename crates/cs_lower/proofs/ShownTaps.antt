@@ -15,7 +15,10 @@ use Rattle.cs_lower.specs.Followed.{at_bit, at_vertex}
 use Rattle.cs_lower.specs.Lowered.{buffer, lowered, pieces_of, wiring_of}
 use Rattle.cs_lower.specs.Meaning.{shown}
 use Rattle.cs_lower.specs.Rings.{rings}
-use Rattle.cs_lower.specs.Taps.{Tap, Wire, from_register, of_bit, of_register, of_signal, of_vertex}
+use Rattle.cs_lower.specs.declared.taps.Tap.{Tap}
+use Rattle.cs_lower.specs.declared.taps.Tap.TheVariants.{Constant as of_bit, Register as of_register, Signal as of_signal, Vertex as of_vertex}
+use Rattle.cs_lower.specs.declared.taps.Wire.{Wire}
+use Rattle.cs_lower.specs.declared.taps.Wire.TheVariants.{Register as from_register}
 use Rattle.cs_lower.specs.Wires.{parts_of, wire_in}
 use Rattle.cs_lower.proofs.MeaningLemmas.{shown_ends}
 use Rattle.cs_lower.proofs.PieceValues.{gate_gives}

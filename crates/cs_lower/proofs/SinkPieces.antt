@@ -19,7 +19,11 @@ use Rattle.cs_net.specs.Netlist.{Net}
 use Rattle.cs_lower.specs.Cells.{Placed, cell_parts, class_parts, data_parts, held_parts, memory_parts, placed_cells, read_parts, read_wires, write_parts}
 use Rattle.cs_lower.specs.Lowered.{buffer, constants, is_used, pieces_of, wiring_of}
 use Rattle.cs_lower.specs.Registers.{Chain, always, mux, never, register_chain, still, with_enable, with_piece, with_reset}
-use Rattle.cs_lower.specs.Taps.{Parts, Piece, Tap, in_turn, of_bit, of_signal, of_vertex, piece}
+use Rattle.cs_lower.specs.declared.taps.Tap.{Tap}
+use Rattle.cs_lower.specs.declared.taps.Tap.TheVariants.{Constant as of_bit, Signal as of_signal, Vertex as of_vertex}
+use Rattle.cs_lower.specs.declared.taps.Piece.{Piece}
+use Rattle.cs_lower.specs.declared.taps.Parts.{Parts}
+use Rattle.cs_lower.specs.Taps.{in_turn, piece}
 use Rattle.cs_lower.specs.Wires.{input_parts, output_parts, parts_of, port_parts}
 
 -- ---- the write ports of a cell

@@ -14,7 +14,8 @@ use Rattle.cs_net.specs.Netlist.{Net}
 use Rattle.cs_net.proofs.Members.{append_all, of_all}
 use Rattle.cs_lower.specs.Matching.{IsVertex, TakesFrom}
 use Rattle.cs_lower.specs.Registers.{Chain, always, mux, never, register_chain, still, with_enable, with_piece, with_reset}
-use Rattle.cs_lower.specs.Taps.{Tap, of_bit, of_signal, of_vertex}
+use Rattle.cs_lower.specs.declared.taps.Tap.{Tap}
+use Rattle.cs_lower.specs.declared.taps.Tap.TheVariants.{Constant as of_bit, Signal as of_signal, Vertex as of_vertex}
 use Rattle.cs_lower.specs.Wires.{parts_of}
 use Rattle.cs_lower.proofs.ChainLemmas.{ShowsChain, ShowsConstants, chain_value}
 use Rattle.cs_lower.proofs.StandLemmas.{stand_at}

@@ -15,7 +15,11 @@ use Rattle.cs_net.proofs.Members.{of_all, within_has}
 use Rattle.cs_lower.specs.Followed.{End, Trail, at_bit, at_vertex, behind_bit, behind_wire, by_ring, followed, from_signal, from_tap}
 use Rattle.cs_lower.specs.Lowered.{buffer, constants, draft_of, pieces_of, trail_of, vertex_of, wiring_of}
 use Rattle.cs_lower.specs.Rings.{bit_behind, in_order, in_place, is_ring, met, rings}
-use Rattle.cs_lower.specs.Taps.{Piece, Tap, Wire, from_register, from_vertex, of_bit, of_register, of_signal, of_vertex, undriven}
+use Rattle.cs_lower.specs.declared.taps.Tap.{Tap}
+use Rattle.cs_lower.specs.declared.taps.Tap.TheVariants.{Constant as of_bit, Register as of_register, Signal as of_signal, Vertex as of_vertex}
+use Rattle.cs_lower.specs.declared.taps.Wire.{Wire}
+use Rattle.cs_lower.specs.declared.taps.Wire.TheVariants.{Register as from_register, Vertex as from_vertex, Undriven as undriven}
+use Rattle.cs_lower.specs.declared.taps.Piece.{Piece}
 use Rattle.cs_lower.specs.Wires.{parts_of, wire_in}
 use Rattle.cs_lower.proofs.FittingNets.{parts_fit}
 use Rattle.cs_lower.proofs.FittingParts.{Gives, IsBefore, IsThere}

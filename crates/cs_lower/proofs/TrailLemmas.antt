@@ -6,7 +6,8 @@ use Rattle.cs_base.specs.declared.signal.Signal.TheVariants.{Bit}
 use Rattle.cs_net.specs.Netlist.{Net}
 use Rattle.cs_lower.specs.Followed.{at_vertex, behind_bit, ends, from_tap}
 use Rattle.cs_lower.specs.Lowered.{trail_of, wiring_of}
-use Rattle.cs_lower.specs.Taps.{Tap, of_register, of_signal}
+use Rattle.cs_lower.specs.declared.taps.Tap.{Tap}
+use Rattle.cs_lower.specs.declared.taps.Tap.TheVariants.{Register as of_register, Signal as of_signal}
 use Rattle.cs_lower.proofs.FollowLemmas.{followed_free, followed_register, followed_ring, followed_step}
 use Rattle.cs_lower.proofs.NetWires.{plain_parts}
 

@@ -20,7 +20,11 @@ use Rattle.cs_net.specs.Drivers.{StateElement, data_inputs, data_outputs, read_d
 use Rattle.cs_net.specs.Netlist.{Net}
 use Rattle.cs_lower.specs.Cells.{Placed, cell_parts, class_parts, data_parts, held_parts, memory_parts, placed_cells, read_parts, read_wires, write_parts, write_piece}
 use Rattle.cs_lower.specs.Registers.{register_chain, register_parts}
-use Rattle.cs_lower.specs.Taps.{Parts, Piece, Tap, in_turn, of_signal, of_vertex, piece}
+use Rattle.cs_lower.specs.declared.taps.Tap.{Tap}
+use Rattle.cs_lower.specs.declared.taps.Tap.TheVariants.{Signal as of_signal, Vertex as of_vertex}
+use Rattle.cs_lower.specs.declared.taps.Piece.{Piece}
+use Rattle.cs_lower.specs.declared.taps.Parts.{Parts}
+use Rattle.cs_lower.specs.Taps.{in_turn, piece}
 use Rattle.cs_lower.specs.Wires.{input_parts, output_parts, parts_of, port_parts}
 use Rattle.cs_lower.specs.Writes.{write_ports, writes_to}
 use Rattle.cs_lower.proofs.TakenLemmas.{chain_muxes}

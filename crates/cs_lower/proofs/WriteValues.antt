@@ -27,7 +27,10 @@ use Rattle.cs_net.proofs.MemoryFacts.{shape_fits}
 use Rattle.cs_net.proofs.PinWidths.{pin_is_wide}
 use Rattle.cs_lower.specs.Cells.{write_piece}
 use Rattle.cs_lower.specs.Lowered.{buffer, constants, is_used, pieces_of, wiring_of}
-use Rattle.cs_lower.specs.Taps.{Piece, Tap, of_signal, piece}
+use Rattle.cs_lower.specs.declared.taps.Tap.{Tap}
+use Rattle.cs_lower.specs.declared.taps.Tap.TheVariants.{Signal as of_signal}
+use Rattle.cs_lower.specs.declared.taps.Piece.{Piece}
+use Rattle.cs_lower.specs.Taps.{piece}
 use Rattle.cs_lower.specs.Wires.{parts_of}
 use Rattle.cs_lower.specs.Writes.{write_ports, writes_to}
 use Rattle.cs_lower.proofs.WriteLemmas.{join_ports, places_of_writes}

@@ -3,7 +3,10 @@ use Rattle.std.specs.Prelude.{ℕ, zero, suc, ◌+◌, ◌==◌, List, [], ◌�
 use Rattle.std.specs.List.{position_from}
 use Rattle.cs_base.specs.declared.signal.Signal.{Signal}
 use Rattle.cs_base.specs.declared.signal.Signal.TheVariants.{Zero, One, Unknown, HighZ, Bit}
-use Rattle.cs_lower.specs.Taps.{Tap, Wire, from_register, from_vertex, of_bit, of_register, of_signal, of_vertex, undriven}
+use Rattle.cs_lower.specs.declared.taps.Tap.{Tap}
+use Rattle.cs_lower.specs.declared.taps.Tap.TheVariants.{Constant as of_bit, Register as of_register, Signal as of_signal, Vertex as of_vertex}
+use Rattle.cs_lower.specs.declared.taps.Wire.{Wire}
+use Rattle.cs_lower.specs.declared.taps.Wire.TheVariants.{Register as from_register, Vertex as from_vertex, Undriven as undriven}
 use Rattle.cs_lower.specs.Wires.{wire_in}
 
 -- where a pin leads: an output of a vertex, or a bit that stands for good

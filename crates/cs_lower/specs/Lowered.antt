@@ -17,7 +17,10 @@ use Rattle.cs_net.specs.Drivers.{own_start}
 use Rattle.cs_net.specs.Netlist.{Net, bit_at}
 use Rattle.cs_lower.specs.Followed.{End, Trail, Wiring, at_bit, at_vertex, followed}
 use Rattle.cs_lower.specs.Rings.{rings}
-use Rattle.cs_lower.specs.Taps.{Piece, Tap, of_register, piece}
+use Rattle.cs_lower.specs.declared.taps.Tap.{Tap}
+use Rattle.cs_lower.specs.declared.taps.Tap.TheVariants.{Register as of_register}
+use Rattle.cs_lower.specs.declared.taps.Piece.{Piece}
+use Rattle.cs_lower.specs.Taps.{piece}
 use Rattle.cs_lower.specs.Wires.{parts_of}
 
 -- ---- vertices

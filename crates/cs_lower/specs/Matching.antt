@@ -9,7 +9,11 @@ use Rattle.cs_net.specs.Build.{places_from}
 use Rattle.cs_net.specs.Drivers.{Driver, Source, StateElement, WordBit, from_signal, from_word, gate, input, register, undriven as driven_by_none, word_bit}
 use Rattle.cs_net.specs.Netlist.{Net}
 use Rattle.cs_lower.specs.Registers.{register_chain}
-use Rattle.cs_lower.specs.Taps.{Piece, Tap, Wire, from_register, from_vertex, of_signal, of_vertex, undriven}
+use Rattle.cs_lower.specs.declared.taps.Tap.{Tap}
+use Rattle.cs_lower.specs.declared.taps.Tap.TheVariants.{Signal as of_signal, Vertex as of_vertex}
+use Rattle.cs_lower.specs.declared.taps.Wire.{Wire}
+use Rattle.cs_lower.specs.declared.taps.Wire.TheVariants.{Register as from_register, Vertex as from_vertex, Undriven as undriven}
+use Rattle.cs_lower.specs.declared.taps.Piece.{Piece}
 use Rattle.cs_lower.specs.Wires.{parts_of}
 
 -- ---- vertices by their numbers

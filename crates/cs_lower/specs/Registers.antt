@@ -1,14 +1,20 @@
 -- The multiplexers that stand before a register with an enable and a reset.
-use Rattle.std.specs.Prelude.{ℕ, ◌+◌, List, [], ◌∷◌, ◌++◌, Bool, true, false, not, if◌then◌else◌, length, Option, Some, None}
+use Rattle.std.specs.Prelude.{◌≡◌, ℕ, ◌+◌, List, [], ◌∷◌, ◌++◌, Bool, true, false, not, if◌then◌else◌, length, Option, Some, None, is_some}
 use Rattle.cs_base.specs.declared.signal.Signal.{Signal}
 use Rattle.cs_base.specs.declared.signal.Signal.TheVariants.{Zero, One, Unknown, HighZ, Bit}
 use Rattle.cs_cells.specs.declared.gate.Kind.TheVariants.{Mux}
 use Rattle.cs_cells.specs.declared.register.ResetKind.{ResetKind}
 use Rattle.cs_cells.specs.Registers.{is_active}
 use Rattle.cs_graph.specs.declared.vertex.VertexKind.TheVariants.{Gate}
-use Rattle.cs_net.specs.Drivers.{Driver, StateElement, driver_of, gate, input, register, undriven, word_bit}
+use Rattle.cs_net.specs.Drivers.{Driver, Source, StateElement, driver_of, gate, input, register, undriven, word_bit}
 use Rattle.cs_net.specs.Netlist.{Net}
-use Rattle.cs_lower.specs.Taps.{Parts, Piece, Tap, from_register, of_bit, of_signal, of_vertex, piece}
+use Rattle.cs_lower.specs.declared.taps.Tap.{Tap}
+use Rattle.cs_lower.specs.declared.taps.Tap.TheVariants.{Constant as of_bit, Signal as of_signal, Vertex as of_vertex}
+use Rattle.cs_lower.specs.declared.taps.Wire.TheVariants.{Register as from_register}
+use Rattle.cs_lower.specs.declared.taps.Piece.{Piece}
+use Rattle.cs_lower.specs.declared.registers.RegisterPins.{RegisterPins}
+use Rattle.cs_lower.specs.declared.taps.Parts.{Parts}
+use Rattle.cs_lower.specs.Taps.{piece, with_pieces}
 
 -- ---- selects that never change
 
@@ -18,6 +24,10 @@ still_driver (input i) = None
 still_driver (gate kind pins) = None
 still_driver (word_bit w) = None
 still_driver (register r) = None
+
+-- something drives a bit
+abbrev pub is_driven : Net → ℕ → Bool
+is_driven net b = not (is_some (still_driver (driver_of net b)))
 
 -- the bit that a constant, or a bit that nothing drives, stands for
 abbrev pub still : Net → Signal → Option Bool
@@ -44,6 +54,10 @@ pub record Chain : Type 0 where
   pub pieces : List Piece
   pub last : Tap
 
+-- a chain without vertices
+abbrev pub no_chain : ℕ → Tap → Chain
+no_chain n d = record { first = n; pieces = []; last = d }
+
 -- a chain with one more vertex
 abbrev pub with_piece : Chain → Piece → Chain
 with_piece c p = record { first = c.first; pieces = c.pieces ++ p ∷ []; last = of_vertex (c.first + length c.pieces) 0 }
@@ -67,13 +81,20 @@ with_reset net (Some reset) r c =
 -- the multiplexers before the register of a bit Q, from what it has at D: that which goes first is nearer D
 abbrev pub register_chain : Net → ℕ → Signal → StateElement → Tap → Chain
 register_chain net n q r d =
-    let at_d : Chain = record { first = n; pieces = []; last = d } in
     if r.kind.enable_over_reset
-    then with_enable net q r.kind.enable r.enable (with_reset net r.kind.reset r.reset at_d)
-    else with_reset net r.kind.reset r.reset (with_enable net q r.kind.enable r.enable at_d)
+    then with_enable net q r.kind.enable r.enable (with_reset net r.kind.reset r.reset (no_chain n d))
+    else with_reset net r.kind.reset r.reset (with_enable net q r.kind.enable r.enable (no_chain n d))
 
 -- the vertices of a register, which drives Q
 abbrev pub register_parts : Net → ℕ → Signal → StateElement → Tap → Parts
 register_parts net n q r d =
     let c = register_chain net n q r d in
     record { pieces = c.pieces; wires = (q, from_register c.last) ∷ [] }
+
+-- a register of these pins, whatever it has at D
+abbrev pub element_of : Source → RegisterPins → StateElement
+element_of source pins = record { kind = pins.kind; source = source; enable = pins.enable; reset = pins.reset }
+
+-- the parts with the vertices of a chain behind the others, and what comes out of it
+abbrev pub IsPushed : Parts → Chain → Parts → Tap → Type 0
+IsPushed old c new last = (new ≡ with_pieces old c.pieces) × (last ≡ c.last)

@@ -2,7 +2,7 @@
 use Rattle.std.specs.Prelude.{ℕ, ◌==◌, List, Bool, false, filter}
 use Rattle.cs_graph.specs.declared.vertex.VertexKind.{VertexKind}
 use Rattle.cs_graph.specs.declared.vertex.VertexKind.TheVariants.{Constant, Gate, Host, Input, Output, Read, Write}
-use Rattle.cs_lower.specs.Taps.{Piece}
+use Rattle.cs_lower.specs.declared.taps.Piece.{Piece}
 
 -- a vertex of this kind is a write port of the memory
 abbrev pub writes_to : ℕ → VertexKind → Bool

@@ -1,0 +1,15 @@
+use Rattle.std.proofs.Common.{◌≡◌, ◌⊎◌, inl, inr, length}
+use Rattle.std.specs.List.{zip}
+use Rattle.cs_lower.proofs.DrivenLemmas.{all_outputs, no_pairs}
+use Rattle.cs_lower.proofs.driven.driven_signals.Goals as goal
+
+pub returns : goal.returns
+returns c =
+    let cells = c.loop-cell.cell-iterator.a.rest.now in
+    let shapes = c.loop-cell.cell-iterator.b.rest.now in
+    let ended : (length cells ≡ 0) ⊎ (length shapes ≡ 0) = elim c.in-None.ensures.steps [
+      | inl e ↦ inl e.1.0
+      | inr e ↦ inr e.1.0
+    ] in
+    all_outputs c.args.net.now (zip cells shapes) c.loop-cell.signals.items (no_pairs cells shapes ended)
+    c.loop-cell.invariant
