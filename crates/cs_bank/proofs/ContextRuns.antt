@@ -27,7 +27,7 @@ use Rattle.cs_bank.proofs.BankedWrites.{all_writes}
 use Rattle.cs_bank.proofs.BankWords.{AllBanked, at_turn, bank_words, next_turn, read_same, words_alone}
 use Rattle.cs_bank.proofs.Counters.{enough_bits, see_context}
 use Rattle.cs_bank.proofs.DraftRuns.{DraftRuns, open_inputs_before, open_memory, open_output, open_outputs, open_value, open_writes, sees}
-use Rattle.cs_bank.proofs.Lists.{flat_map_same}
+use Rattle.cs_graph.proofs.Lists.{flat_map_same}
 use Rattle.cs_bank.proofs.SizeTests.{number_of-digits}
 use Rattle.cs_bank.proofs.SlowDrafts.{context, context_in, context_out, pins_slow, ports_slow, slow_draft, slow_open, slow_pin}
 use Rattle.cs_bank.proofs.StartLemmas.{bank_none, bank_start, entry_at, get_with_entry, get_without}

@@ -13,8 +13,12 @@ use Rattle.cs_graph.specs.declared.vertex.VertexKind.{VertexKind}
 use Rattle.cs_graph.specs.declared.vertex.VertexKind.TheVariants.{Gate, Host, Input, Output, Read, Write}
 use Rattle.cs_graph.specs.Slow.{slow}
 use Rattle.cs_net.specs.Contexts.{Image}
-use Rattle.cs_bank.specs.Bank.{CanBank, FitsMemory, IsWhole, bank}
+use Rattle.cs_bank.specs.declared.measures.Measure.TheVariants.{Edges, Registers, Vertices as ItsVertices}
+use Rattle.cs_bank.specs.Bank.{CanBank, FitsMemory, IsWhole, bank, banked_vertices}
 use Rattle.cs_bank.specs.BankFaults.{bank_fault}
+use Rattle.cs_bank.specs.Measures.{extent}
+use Rattle.cs_bank.specs.Wired.{wired}
+use Rattle.cs_bank.specs.WritePlaces.{writes_of}
 use Rattle.cs_bank.proofs.SlowedGraphs.{can_bank_slowed}
 
 abbrev vertex : VertexKind → List ℕ → Vertex
@@ -55,6 +59,15 @@ m2 : bank 2 (None ∷ []) (slow 2 (memory_graph 3 start)) ≡ record {
   memories = record { size = 3; words = 8; abits = 3; width = 2; start = start ++ start } ∷ [];
 }
 m2 = refl
+
+-- its Write is vertex 9
+m2_writes : writes_of (memory_graph 3 start) ≡ (9 ∷ []) ∷ []
+m2_writes = refl
+
+-- counted, it has these vertices, edges and registers
+m2_counts : map (λ measure. extent measure (banked_vertices 2 (wired (slow 2 (memory_graph 3 start)))))
+    (ItsVertices ∷ Edges ∷ Registers ∷ []) ≡ 15 ∷ 20 ∷ 2 ∷ []
+m2_counts = refl
 
 -- M1, of four words, in three banks: two context bits and no guard
 m1_vertices : map (λ (x : Vertex). x.kind) (drop 10 (bank 3 (None ∷ []) (slow 3 (memory_graph 4 start))).vertices) ≡

@@ -46,11 +46,6 @@ get_second (x ∷ xs) ys i =
 pub get_after : {A : Type 0} (xs ys : List A) (i k : ℕ) → i ≡ length xs + k → slice_get (xs ++ ys) i ≡ slice_get ys k
 get_after xs ys i k is = ap (slice_get (xs ++ ys)) is ∙ get_second xs ys k
 
-pub flat_map_same : {A B : Type 0} (f g : A → List B) (xs : List A)
-    → ((i : ℕ) (x : A) → slice_get xs i ≡ Some x → f x ≡ g x) → flat_map f xs ≡ flat_map g xs
-flat_map_same f g [] h = refl
-flat_map_same f g (x ∷ xs) h = ap₂ (λ ys zs. ys ++ zs) (h 0 x refl) (flat_map_same f g xs (λ i y is. h (suc i) y is))
-
 -- each place of a mapped list was one before
 pub was_in : {A B : Type 0} (f : A → B) (xs : List A) (v : ℕ) (y : B) → slice_get (map f xs) v ≡ Some y
     → (x : A) × (slice_get xs v ≡ Some x) × (f x ≡ y)

@@ -5,3 +5,7 @@ pub mod Starts
 pub mod Bank
 pub mod Alone
 pub mod BankFaults
+pub mod TestSteps
+pub mod WritePlaces
+pub mod Measures
+pub mod BankErrors

@@ -1,7 +1,6 @@
 pub mod BackLemmas
 pub mod PlainPapers
 pub mod RangeLemmas
-pub mod ItemLemmas
 pub mod StepLemmas
 pub mod SoundLemmas
 pub mod FloorLemmas

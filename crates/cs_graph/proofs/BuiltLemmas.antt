@@ -1,4 +1,4 @@
--- What is built keeps what every machine keeps, but for loops.
+-- What is built keeps what every machine keeps, but for loops; it is well-formed whatever its limits.
 use Rattle.std.proofs.Common.{◌≡◌, ℕ, zero, suc, ◌+◌, ◌<◌, List, [], ◌∷◌, ◌++◌, length, refl, sym, ap, ap₂, subst, ◌∙◌, inl, inr, arith, length-append}
 use Rattle.std.specs.Prelude.{Option, Some, None, slice_get}
 use Rattle.std.specs.List.{sum_by}
@@ -95,6 +95,7 @@ pub record ComesFrom (feeds : List Feed) (sources : List (Option Source)) (e k i
     pub source : slice_get sources i ≡ Some (Some (Driven driver))
     pub from : d.from ≡ driver.from
     pub output : d.output ≡ driver.output
+    pub contents : d.contents ≡ driver.contents
     pub held : length d.contents ≡ d.weight
 
 -- edge k of the pins from j on
@@ -122,6 +123,7 @@ first_comes v j e (Some (Driven c)) ss k d h =
         source = refl;
         from = refl;
         output = refl;
+        contents = refl;
         held = refl;
       };
     })
@@ -146,6 +148,7 @@ pins_from v j e (s ∷ ss) k d h = elim (get_append (edge_into v j s) (edges_int
           source = rest.comes.source;
           from = rest.comes.from;
           output = rest.comes.output;
+          contents = rest.comes.contents;
           held = rest.comes.held;
         };
       }
@@ -217,7 +220,7 @@ pub record FromVertices (v e : ℕ) (xs : List OpenVertex) (k : ℕ) (d : Edge) 
   pub found : slice_get (vertices_from e xs) w ≡ Some new
   pub comes : ComesFrom new.pins old.pins e k d.pin d
 
-vertex_from : (v e : ℕ) (xs : List OpenVertex) (k : ℕ) (d : Edge) → slice_get (edges_from v xs) k ≡ Some d
+pub vertex_from : (v e : ℕ) (xs : List OpenVertex) (k : ℕ) (d : Edge) → slice_get (edges_from v xs) k ≡ Some d
     → FromVertices v e xs k d
 vertex_from v e [] k d h = absurd (none-some d h)
 vertex_from v e (y ∷ xs) k d h = elim (get_append (edges_into v 0 y.pins) (edges_from (v + 1) xs) k d h) [
@@ -251,6 +254,7 @@ vertex_from v e (y ∷ xs) k d h = elim (get_append (edges_into v 0 y.pins) (edg
           source = rest.comes.source;
           from = rest.comes.from;
           output = rest.comes.output;
+          contents = rest.comes.contents;
           held = rest.comes.held;
         };
       }
@@ -300,7 +304,7 @@ length_edges_from v (x ∷ xs) =
     ∙ ap₂ (λ a b. a + b) (length_edges_into v 0 x.pins) (length_edges_from (v + 1) xs)
     ∙ sym (sum_by-cons (λ (z : OpenVertex). sum_by driven z.pins) x xs)
 
-abbrev edge_weights : List Edge → ℕ
+abbrev pub edge_weights : List Edge → ℕ
 edge_weights es = sum_by (λ (d : Edge). d.weight) es
 
 weight_into_one : (v j : ℕ) (s : Option Source) → edge_weights (edge_into v j s) ≡ registers s
@@ -315,7 +319,7 @@ weight_into v j (s ∷ ss) =
     ∙ ap₂ (λ a b. a + b) (weight_into_one v j s) (weight_into v (j + 1) ss)
     ∙ sym (sum_by-cons registers s ss)
 
-weight_from : (v : ℕ) (xs : List OpenVertex) → edge_weights (edges_from v xs) ≡ weight xs
+pub weight_from : (v : ℕ) (xs : List OpenVertex) → edge_weights (edges_from v xs) ≡ weight xs
 weight_from v [] = refl
 weight_from v (x ∷ xs) =
     sum_by-append (λ (d : Edge). d.weight) (edges_into v 0 x.pins) (edges_from (v + 1) xs)
@@ -346,7 +350,14 @@ became e (y ∷ xs) (suc w) x h =
 
 -- ---- all together
 
-module _ (d : Draft) (is : IsDraft d) where
+-- each source that drives a pin is an output that is there
+abbrev pub HasOutputs : Draft → Type 0
+HasOutputs d =
+    (v i : ℕ) (x : OpenVertex) (k : Driver) → slice_get d.vertices v ≡ Some x
+    → slice_get x.pins i ≡ Some (Some (Driven k))
+    → HasOutput d.memories (open_kinds d.vertices) k.from k.output
+
+module _ (d : Draft) (has_outputs : HasOutputs d) where
   built_fed : IsFed (built d)
   built_fed = record {
     named = λ v i e x found at.
@@ -382,12 +393,12 @@ module _ (d : Draft) (is : IsDraft d) where
   built_output e y there =
       let from = vertex_from 0 0 d.vertices e y there in
       let comes = from.comes in
-      let has = is.outputs from.w y.pin from.old comes.driver from.given comes.source in
+      let has = has_outputs from.w y.pin from.old comes.driver from.given comes.source in
       subst (λ u. HasOutput d.memories (open_kinds d.vertices) u y.output) (sym comes.from)
       (subst (λ o. HasOutput d.memories (open_kinds d.vertices) comes.driver.from o) (sym comes.output) has)
 
-  pub built_wired : IsWired (built d)
-  built_wired = record {
+  wired_by_outputs : IsWired (built d)
+  wired_by_outputs = record {
     fed = built_fed;
     from = λ e y there.
         let has = built_output e y there in
@@ -397,10 +408,11 @@ module _ (d : Draft) (is : IsDraft d) where
         omega (arith, within, same, count);
   }
 
-  built_well_formed : HasOrder (built d) → IsWellFormed (built d)
+  -- what is built of it is well-formed where no loop lacks a register
+  pub built_well_formed : HasOrder (built d) → IsWellFormed (built d)
   built_well_formed order = record {
     fed = built_fed;
-    from = built_wired.from;
+    from = wired_by_outputs.from;
     to = λ e y there.
         let from = vertex_from 0 0 d.vertices e y there in
         let within = slice_get_within (vertices_from 0 d.vertices) from.w from.new from.found in
@@ -410,17 +422,21 @@ module _ (d : Draft) (is : IsDraft d) where
     order = order;
   }
 
+module _ (d : Draft) (is : IsDraft d) where
+  pub built_wired : IsWired (built d)
+  built_wired = wired_by_outputs d is.outputs
+
   pub built_machine : HasOrder (built d) → IsMachine (built d)
   built_machine order =
       let same = kinds_from 0 d.vertices in
       record {
-        well_formed = built_well_formed order;
+        well_formed = built_well_formed d is.outputs order;
         host = subst HasHost (sym same) is.host;
         pins = λ v x found.
             let was = became 0 d.vertices v x found in
             was.count ∙ is.pins v was.old was.given ∙ ap (pin_count d.memories) (sym was.kind);
         outputs = λ e y there. subst (λ ks. HasOutput d.memories ks y.from y.output) (sym same)
-            (built_output e y there);
+            (built_output d is.outputs e y there);
         memories = subst (HasMemories d.memories) (sym same) is.memories;
         numbered = λ e f y z less there there'. vertices_numbered 0 d.vertices e f y z less there there';
         limits = record {

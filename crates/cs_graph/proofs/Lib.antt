@@ -1,4 +1,4 @@
-mod Lists
+pub mod Lists
 pub mod Sees
 pub mod Runs
 pub mod Slowed

@@ -1,6 +1,7 @@
 //! The graph of Leiserson and Saxe with starts and memories: machines, their builder, order, lags and periods.
 #![tactic(auto)]
 
+mod assembling;
 mod builder;
 mod contents;
 mod delays;
@@ -18,7 +19,8 @@ mod period;
 mod source;
 mod vertex;
 
-pub use builder::MachineBuilder;
+pub use assembling::assemble;
+pub use builder::{MOST_EDGES, MOST_VERTICES, MOST_WEIGHT, MachineBuilder};
 pub use contents::Contents;
 pub use delays::Delays;
 pub use edge::Edge;
@@ -31,4 +33,5 @@ pub use laws::{
 };
 pub use machine::Machine;
 pub use memory::Memory;
+pub use source::{Driver, OpenPins, OpenVertex, Source};
 pub use vertex::{Feed, Pins, Vertex, VertexKind};

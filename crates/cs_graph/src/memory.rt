@@ -17,8 +17,8 @@ pub struct Memory {
 }
 
 impl Memory {
-    /// Another memory of the same sizes and start.
-    pub(crate) fn copy(&self, alloc: Global) -> Result<Self, AllocError>
+    /// Another memory of the same sizes and start. It errs only where memory runs out.
+    pub fn copy(&self, alloc: Global) -> Result<Self, AllocError>
         ensures { IfOk result (λ memory. memory ≡ self.now) }
     {
         let start = Vec::from_slice(alloc, self.start.as_slice())?;

@@ -48,6 +48,13 @@ impl OpenPins {
         Ok(OpenPins { sources })
     }
 
+    /// Pins with these sources; it takes no memory.
+    pub fn from_vec(sources: Vec<Option<Source>>) -> OpenPins
+        ensures { result ≡ sources.items }
+    {
+        OpenPins { sources }
+    }
+
     /// Feeds a pin.
     pub(crate) fn set(&mut self, pin: u32, source: Source)
         requires { pin < length self.old }
@@ -56,7 +63,8 @@ impl OpenPins {
         self.sources[pin as usize] = Some(source);
     }
 
-    pub(crate) fn as_slice(&self) -> &[Option<Source>]
+    /// The pins in order.
+    pub fn as_slice(&self) -> &[Option<Source>]
         ensures { result.now ≡ self.now }
     {
         self.sources.as_slice()

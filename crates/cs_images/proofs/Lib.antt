@@ -1,5 +1,4 @@
 -- Lemmas on names and on the bits of images.
-mod ItemLemmas
 mod NameLemmas
 mod ImageLemmas
 mod Examples

@@ -2,3 +2,4 @@ mod Examples
 pub mod ContextStarts
 pub mod Bankable
 pub mod Isolated
+pub mod FaultLemmas

@@ -1,2 +1,3 @@
 pub mod Interleaved
 pub mod Isolation
+pub mod InterleaveFaults

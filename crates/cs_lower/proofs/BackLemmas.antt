@@ -7,13 +7,8 @@ use Rattle.std.proofs.lemmas.Option.{none-some, same_Some}
 use Rattle.cs_base.specs.declared.signal.Signal.{Signal}
 use Rattle.cs_lower.specs.Rings.{bit_behind, met}
 use Rattle.cs_lower.specs.declared.taps.Wire.{Wire}
+use Rattle.cs_lower.specs.Walks.{back}
 use Rattle.cs_lower.specs.Wires.{wire_in}
-
--- the bit behind so many registers
-abbrev pub back : List (Signal × Wire) → ℕ → Option ℕ → Option ℕ
-back wires zero b = b
-back wires (suc k) None = None
-back wires (suc k) (Some b) = back wires k (bit_behind (wire_in wires b))
 
 pub back_none : (wires : List (Signal × Wire)) (k : ℕ) → back wires k None ≡ None
 back_none wires zero = refl

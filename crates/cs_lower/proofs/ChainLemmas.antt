@@ -9,7 +9,7 @@ use Rattle.cs_cells.specs.Gates.{equation, gate_value}
 use Rattle.cs_cells.specs.Registers.{is_active, next_value, value_with_enable, value_with_reset}
 use Rattle.cs_net.specs.Drivers.{StateElement}
 use Rattle.cs_net.specs.Netlist.{Net}
-use Rattle.cs_lower.specs.Registers.{Chain, always, mux, never, register_chain, still, with_enable, with_piece, with_reset}
+use Rattle.cs_lower.specs.Registers.{Chain, always, held_tap, mux, never, register_chain, still, with_enable, with_piece, with_reset}
 use Rattle.cs_lower.specs.declared.taps.Tap.{Tap}
 use Rattle.cs_lower.specs.declared.taps.Tap.TheVariants.{Constant as of_bit, Signal as of_signal, Vertex as of_vertex}
 use Rattle.cs_lower.specs.declared.taps.Piece.{Piece}
@@ -88,27 +88,27 @@ record Adds (tap : Tap → Bool) (c longer : Chain) (value : Bool → Bool) : Ty
   before : ShowsChain tap c
   last : tap longer.last ≡ value (tap c.last)
 
-enable_adds : (net : Net) (tap : Tap → Bool) → ShowsConstants net tap → (q : Signal) (enable : Option Bool) (e : Signal)
-    (c : Chain) → ShowsChain tap (with_enable net q enable e c)
-    → Adds tap c (with_enable net q enable e c)
-    (value_with_enable enable (tap (of_signal e)) (tap (of_signal q)))
-enable_adds net tap constants q None e c shows = record { before = shows; last = refl }
-enable_adds net tap constants q (Some high) e c shows = by (always high (still net e)) refl shows
+enable_adds : (net : Net) (tap : Tap → Bool) → ShowsConstants net tap → (held : Tap) (enable : Option Bool) (e : Signal)
+    (c : Chain) → ShowsChain tap (with_enable net held enable e c)
+    → Adds tap c (with_enable net held enable e c)
+    (value_with_enable enable (tap (of_signal e)) (tap held))
+enable_adds net tap constants held None e c shows = record { before = shows; last = refl }
+enable_adds net tap constants held (Some high) e c shows = by (always high (still net e)) refl shows
   where
     p : Piece
-    p = mux high (of_signal q) c.last e
+    p = mux high held c.last e
 
     by : (out : Bool) → always high (still net e) ≡ out → ShowsChain tap (if out then c else with_piece c p)
         → Adds tap c (if out then c else with_piece c p)
-        (value_with_enable (Some high) (tap (of_signal e)) (tap (of_signal q)))
+        (value_with_enable (Some high) (tap (of_signal e)) (tap held))
     by true is shows = record {
       before = shows;
-      last = sym (ap (λ t. if t then tap c.last else tap (of_signal q))
+      last = sym (ap (λ t. if t then tap c.last else tap held)
           (always_active net tap constants high e is));
     }
     by false is shows = record {
       before = shows_before tap c p shows;
-      last = last_value tap c p shows ∙ mux_value tap high (of_signal q) c.last e;
+      last = last_value tap c p shows ∙ mux_value tap high held c.last e;
     }
 
 reset_adds : (net : Net) (tap : Tap → Bool) → ShowsConstants net tap → (reset : Option ResetKind) (r : Signal)
@@ -137,10 +137,10 @@ reset_adds net tap constants (Some reset) r c shows = by (never reset.high (stil
 -- ---- the chain
 
 -- what comes out of the chain is the register's next value
-pub chain_value : (net : Net) (tap : Tap → Bool) → ShowsConstants net tap → (n : ℕ) (q : Signal) (r : StateElement)
+pub chain_value : (net : Net) (tap : Tap → Bool) → ShowsConstants net tap → (n : ℕ) (q : Signal × Bool) (r : StateElement)
     (d : Tap) → ShowsChain tap (register_chain net n q r d)
     → tap (register_chain net n q r d).last
-    ≡ next_value r.kind (tap d) (tap (of_signal q)) (tap (of_signal r.enable)) (tap (of_signal r.reset))
+    ≡ next_value r.kind (tap d) (tap (held_tap net n q r)) (tap (of_signal r.enable)) (tap (of_signal r.reset))
 unfolding next_value
 chain_value net tap constants n q r d shows = by r.kind.enable_over_reset shows
   where
@@ -153,24 +153,24 @@ chain_value net tap constants n q r d shows = by r.kind.enable_over_reset shows
 
     by : (over : Bool)
         → ShowsChain tap (if over
-        then with_enable net q r.kind.enable r.enable (with_reset net r.kind.reset r.reset at_d)
-        else with_reset net r.kind.reset r.reset (with_enable net q r.kind.enable r.enable at_d))
+        then with_enable net (held_tap net n q r) r.kind.enable r.enable (with_reset net r.kind.reset r.reset at_d)
+        else with_reset net r.kind.reset r.reset (with_enable net (held_tap net n q r) r.kind.enable r.enable at_d))
         → tap (if over
-        then with_enable net q r.kind.enable r.enable (with_reset net r.kind.reset r.reset at_d)
-        else with_reset net r.kind.reset r.reset (with_enable net q r.kind.enable r.enable at_d)).last
+        then with_enable net (held_tap net n q r) r.kind.enable r.enable (with_reset net r.kind.reset r.reset at_d)
+        else with_reset net r.kind.reset r.reset (with_enable net (held_tap net n q r) r.kind.enable r.enable at_d)).last
         ≡ (if over
-        then value_with_enable r.kind.enable (tap (of_signal r.enable)) (tap (of_signal q))
+        then value_with_enable r.kind.enable (tap (of_signal r.enable)) (tap (held_tap net n q r))
         (value_with_reset r.kind.reset (tap (of_signal r.reset)) (tap d))
         else value_with_reset r.kind.reset (tap (of_signal r.reset))
-        (value_with_enable r.kind.enable (tap (of_signal r.enable)) (tap (of_signal q)) (tap d)))
+        (value_with_enable r.kind.enable (tap (of_signal r.enable)) (tap (held_tap net n q r)) (tap d)))
     by true shows =
-        let outer = enable_adds net tap constants q r.kind.enable r.enable (with_reset net r.kind.reset r.reset at_d)
+        let outer = enable_adds net tap constants (held_tap net n q r) r.kind.enable r.enable (with_reset net r.kind.reset r.reset at_d)
         shows in
         let inner = reset_adds net tap constants r.kind.reset r.reset at_d outer.before in
         outer.last
-        ∙ ap (value_with_enable r.kind.enable (tap (of_signal r.enable)) (tap (of_signal q))) inner.last
+        ∙ ap (value_with_enable r.kind.enable (tap (of_signal r.enable)) (tap (held_tap net n q r))) inner.last
     by false shows =
         let outer = reset_adds net tap constants r.kind.reset r.reset
-        (with_enable net q r.kind.enable r.enable at_d) shows in
-        let inner = enable_adds net tap constants q r.kind.enable r.enable at_d outer.before in
+        (with_enable net (held_tap net n q r) r.kind.enable r.enable at_d) shows in
+        let inner = enable_adds net tap constants (held_tap net n q r) r.kind.enable r.enable at_d outer.before in
         outer.last ∙ ap (value_with_reset r.kind.reset (tap (of_signal r.reset))) inner.last

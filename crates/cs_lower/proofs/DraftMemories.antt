@@ -28,7 +28,7 @@ use Rattle.cs_net.specs.Accept.{above_limit, limit_fault, memory_bits, read_bits
 use Rattle.cs_net.specs.Build.{net_of}
 use Rattle.cs_net.specs.Invariant.{IsWellFormed}
 use Rattle.cs_net.specs.Netlist.{Net}
-use Rattle.cs_lower.proofs.FormedMemories.{none_misformed}
+use Rattle.cs_net.proofs.ClockFacts.{none_misformed}
 use Rattle.cs_net.proofs.LimitLemmas.{all_narrow}
 use Rattle.cs_net.proofs.MemoryFacts.{shape_count}
 use Rattle.cs_net.proofs.MemoryPlaces.{map_at}

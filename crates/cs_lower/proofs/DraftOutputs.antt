@@ -7,12 +7,13 @@ use Rattle.cs_graph.specs.declared.source.Source.{Source}
 use Rattle.cs_graph.specs.declared.source.Source.TheVariants.{Driven, Tied}
 use Rattle.cs_graph.specs.declared.vertex.VertexKind.TheVariants.{Constant}
 use Rattle.cs_graph.specs.Invariant.{IsWellFormed as IsWellFormedGraph}
-use Rattle.cs_lower.proofs.BuiltGraphs.{HasOutputs, built_well_formed}
+use Rattle.cs_graph.proofs.BuiltLemmas.{HasOutputs, built_well_formed}
 use Rattle.cs_net.specs.Invariant.{IsWellFormed}
 use Rattle.cs_net.specs.Netlist.{Net}
 use Rattle.cs_net.proofs.Members.{of_all}
 use Rattle.cs_net.proofs.MemoryPlaces.{map_at}
-use Rattle.cs_lower.specs.Followed.{End, at_bit, at_vertex}
+use Rattle.cs_lower.specs.declared.taps.End.{End}
+use Rattle.cs_lower.specs.declared.taps.End.TheVariants.{Constant as at_bit, Vertex as at_vertex}
 use Rattle.cs_lower.specs.Lowered.{constant_number, constant_source, constants, draft_of, is_used, is_value, lowered, needs_constant, passes_some, pieces_of, source_by, source_of, trail_of, vertex_of}
 use Rattle.cs_lower.specs.declared.taps.Tap.{Tap}
 use Rattle.cs_lower.specs.declared.taps.Piece.{Piece}

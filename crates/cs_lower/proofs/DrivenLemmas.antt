@@ -19,7 +19,7 @@ map-append : {A B : Type 0} (f : A → B) (xs ys : List A) → map f (xs ++ ys) 
 map-append f [] ys = refl
 map-append f (x ∷ xs) ys = ap (λ rest. f x ∷ rest) (map-append f xs ys)
 
-none_left : {A : Type 0} (i : ℕ) (xs : List A) → length xs ≤ i → drop i xs ≡ []
+pub none_left : {A : Type 0} (i : ℕ) (xs : List A) → length xs ≤ i → drop i xs ≡ []
 none_left zero [] past = refl
 none_left (suc i) [] past = refl
 none_left zero (x ∷ xs) past = absurd (omega (arith, past))

@@ -1,6 +1,6 @@
 -- The vertices of cells fit, where memories have the sizes of their cells' shapes.
 use Rattle.std.specs.Prelude.{if◌then◌else◌, slice_get}
-use Rattle.std.proofs.Common.{◌≡◌, ℕ, zero, suc, ◌+◌, ◌*◌, ◌<◌, ◌≤◌, Bool, true, false, List, [], ◌∷◌, ◌++◌, length, map, Option, Some, None, codes, refl, sym, ◌∙◌, arith, length-append}
+use Rattle.std.proofs.Common.{◌≡◌, ℕ, zero, suc, ◌+◌, ◌*◌, ◌<◌, ◌≤◌, Bool, true, false, List, [], ◌∷◌, ◌++◌, length, map, Option, Some, None, codes, refl, sym, ◌∙◌, arith, length-append, get_or}
 use Rattle.std.specs.List.{AllByRecursion, enumerate_from}
 use Rattle.std.proofs.lemmas.List.{length-map}
 use Rattle.cs_base.specs.declared.signal.Signal.{Signal}
@@ -114,7 +114,7 @@ module _ (net : Net) (memory : ℕ) (cell : Cell) (shape : MemShape) (sizes : Ha
       → PartsFit net n (held_parts net cell shape read v n e)) (enumerate_from k signals)
   all_held read v k [] stands few = tt
   all_held read v k (s ∷ signals) stands few = (
-    λ n later here. register_fits net n s (read_element cell shape read.1 read.0 k) (of_vertex v k)
+    λ n later here. register_fits net n (s, get_or read.1.start k false) (read_element cell shape read.1 read.0 k) (of_vertex v k)
         (omega (arith, later), read_gives v read.0 k stands (omega (arith, few))) here,
     all_held read v (k + 1) signals stands (omega (arith, few)),
   )
@@ -222,7 +222,7 @@ class_fits : (net : Net) (class : Class) (c : Placed)
     → StandsIn net n (class_parts net n class c).pieces → PartsFit net n (class_parts net n class c)
 class_fits net (GateClass kind) c sizes n stands = gate_fits net n c.cell kind stands
 class_fits net (Register kind) c sizes n stands =
-    register_fits net n (signal_of c.cell (codes "Q")) (register_of c.cell kind)
+    register_fits net n (signal_of c.cell (codes "Q"), false) (register_of c.cell kind)
     (of_signal (signal_of c.cell (codes "D"))) tt stands
 class_fits net Memory c sizes n stands =
     memory_fits net n c.memory c.cell c.shape (λ s is. sizes s refl is) stands

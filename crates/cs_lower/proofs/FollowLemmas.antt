@@ -9,30 +9,22 @@ use Rattle.std.proofs.lemmas.Option.{none-some, same_Some}
 use Rattle.cs_base.specs.declared.signal.Signal.{Signal}
 use Rattle.cs_base.specs.declared.signal.Signal.TheVariants.{Zero, One, Unknown, HighZ, Bit}
 use Rattle.cs_modules.specs.Signals.{number_in}
-use Rattle.cs_lower.specs.Followed.{Trail, Wiring, at_bit, at_vertex, behind_bit, behind_wire, by_ring, ends, followed, from_tap, past}
+use Rattle.cs_lower.specs.Followed.{Trail, Wiring, behind_bit, behind_wire, by_ring, ends, followed, from_tap, past}
+use Rattle.cs_lower.specs.declared.taps.End.TheVariants.{Constant as at_bit, Vertex as at_vertex}
 use Rattle.cs_lower.specs.Rings.{bit_at_tap, bit_behind, met, rings}
 use Rattle.cs_lower.specs.declared.taps.Tap.{Tap}
-use Rattle.cs_lower.specs.declared.taps.Tap.TheVariants.{Constant as of_bit, Register as of_register, Signal as of_signal, Vertex as of_vertex}
+use Rattle.cs_lower.specs.declared.taps.Tap.TheVariants.{Constant as of_bit, Held as of_held, Register as of_register, Signal as of_signal, Vertex as of_vertex}
 use Rattle.cs_lower.specs.declared.taps.Wire.{Wire}
 use Rattle.cs_lower.specs.declared.taps.Wire.TheVariants.{Register as from_register, Vertex as from_vertex, Undriven as undriven}
+use Rattle.cs_lower.specs.Walks.{IsPassed, Passes, back}
 use Rattle.cs_lower.specs.Wires.{wire_in}
-use Rattle.cs_lower.proofs.BackLemmas.{ComesAgain, back, back_join, distinct_or_again, met_is_reached}
+use Rattle.cs_lower.proofs.BackLemmas.{ComesAgain, back_join, distinct_or_again, met_is_reached}
 use Rattle.cs_lower.proofs.PlainWires.{ArePlain, IsPlain, plain_behind}
 use Rattle.cs_lower.proofs.RingLemmas.{MeetsRing, has_place, is_wired, loop_meets_ring}
 
 -- more fuel changes nothing
 abbrev pub IsSettled : Wiring → ℕ → Tap → Type 0
 IsSettled w fuel t = (more : ℕ) → fuel ≤ more → followed w more t ≡ followed w fuel t
-
--- the bit behind k registers is passed in its turn
-pub record IsPassed (w : Wiring) (k : ℕ) (b : Option ℕ) : Type 0 where
-  pub bit : ℕ
-  pub reached : back w.wires k b ≡ Some bit
-  pub free : position_from (λ r. r == bit) 0 w.rings ≡ None
-  pub driven : wire_in w.wires bit ≡ undriven → ⊥
-
-abbrev pub Passes : Wiring → ℕ → Option ℕ → Type 0
-Passes w n b = (k : ℕ) → k < n → IsPassed w k b
 
 -- ---- settled, or so many registers are passed
 
@@ -87,6 +79,7 @@ settled_or_passes w plain (suc n) (of_vertex v o) here =
 settled_or_passes w plain (suc n) (of_bit b) here =
     inl (at_once w n (of_bit b) (ends (at_bit b)) (λ back. refl))
 settled_or_passes w plain (suc n) (of_register b) here = absurd here
+settled_or_passes w plain (suc n) (of_held v start) here = absurd here
 settled_or_passes w plain (suc n) (of_signal (Bit b)) here =
     by (position_from (λ r. r == b) 0 w.rings) refl (wire_in w.wires b) refl (settled_or_passes w plain n)
   where
@@ -107,11 +100,12 @@ settled_or_passes w plain (suc n) (of_signal (Bit b)) here =
 
 -- ---- no more are passed than there are wires
 
-either_way : (q : ℕ) (xs : List ℕ) → list_any (λ a. a == q) xs ≡ list_any (nat_eq q) xs
+-- either way round
+pub either_way : (q : ℕ) (xs : List ℕ) → list_any (λ a. a == q) xs ≡ list_any (nat_eq q) xs
 either_way q [] = refl
 either_way q (x ∷ xs) = ap₂ (λ s t. s || t) (nat_eq_equiv.symm x q) (either_way q xs)
 
-no_more_numbers : (wires : List (Signal × Wire)) → length (filter_map (λ w. number_in w.0) wires) ≤ length wires
+pub no_more_numbers : (wires : List (Signal × Wire)) → length (filter_map (λ w. number_in w.0) wires) ≤ length wires
 no_more_numbers [] = omega arith
 no_more_numbers ((Zero, x) ∷ wires) = omega (arith, no_more_numbers wires)
 no_more_numbers ((One, x) ∷ wires) = omega (arith, no_more_numbers wires)
@@ -185,7 +179,8 @@ none_again w is_rings n b most passes h = by (h.second - suc h.first) (omega (ar
     by q sum = meets q sum (loop_meets_ring w.wires q h.bit (omega (arith, sum, h.within, most))
         (again_closes w.wires n (suc q) b h sum))
 
-never_so_many : (w : Wiring) → w.rings ≡ rings w.wires → (b : Option ℕ) → Passes w (suc (length w.wires)) b → ⊥
+-- no more bits are passed than there are wires
+pub never_so_many : (w : Wiring) → w.rings ≡ rings w.wires → (b : Option ℕ) → Passes w (suc (length w.wires)) b → ⊥
 never_so_many w is_rings b passes = elim (distinct_or_again w.wires (suc (length w.wires)) b) [
   | inl distinct ↦ absurd (omega (arith, few_distinct w (suc (length w.wires)) b passes distinct))
   | inr again ↦ none_again w is_rings (suc (length w.wires)) b (omega arith) passes again
@@ -225,6 +220,8 @@ two_more w plain is_rings (of_bit b) =
     later_too w (suc (length w.wires)) (of_bit b) (settled_plain w plain is_rings (of_bit b) tt)
 two_more w plain is_rings (of_register b) =
     settled_register w plain (suc (length w.wires)) b (settled_plain w plain is_rings)
+two_more w plain is_rings (of_held v start) =
+    at_once w (suc (length w.wires)) (of_held v start) (past start (ends (at_vertex v 0))) (λ back. refl)
 
 -- more fuel than two beyond the number of wires changes nothing
 pub settled : (w : Wiring) → ArePlain w.wires → w.rings ≡ rings w.wires → (t : Tap)

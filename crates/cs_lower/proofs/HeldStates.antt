@@ -89,7 +89,7 @@ module _ (net : Net) (w : IsWellFormed net) (clocks : ℕ) (row : ℕ → Row) (
           ∙ next_taken net (row n) now (shown_bits net value n)
           (bits_settle net w clocks row value words run n h now held) (shows net value n) (shown_bit net value n)
           (shown_signal net value n) (gates_show net w clocks row value words run n h)
-          (reads_show net w clocks row value words run n h now held) b r taken.0 is taken.2)
+          (reads_show net w clocks row value words run n h now held) b taken.2 r taken.0 is taken.3)
 
       stays_held : IsHeld net value (words (suc n)) (suc n) (next_state net now (shown_bits net value n))
       stays_held = record {

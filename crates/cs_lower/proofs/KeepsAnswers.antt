@@ -10,7 +10,7 @@ use Rattle.cs_net.specs.Drivers.{data_outputs, own_start}
 use Rattle.cs_net.specs.Invariant.{IsWellFormed}
 use Rattle.cs_net.specs.Netlist.{Net, state_of}
 use Rattle.cs_net.specs.Trace.{Answers, Valuation, output_row, output_rows}
-use Rattle.cs_net.proofs.Answering.{same_answer}
+use Rattle.cs_net.proofs.Answering.{get_or-output_rows, length-output_rows, same_answer}
 use Rattle.cs_lower.specs.Alike.{AnswersAlike}
 use Rattle.cs_lower.specs.Lowered.{lowered}
 use Rattle.cs_lower.specs.declared.taps.Tap.TheVariants.{Signal as of_signal}
@@ -19,18 +19,6 @@ use Rattle.cs_lower.proofs.SeenLemmas.{shows}
 use Rattle.cs_lower.proofs.SeenMemories.{taps_of_signals}
 use Rattle.cs_lower.proofs.SeenSinks.{outputs_show}
 use Rattle.cs_lower.proofs.ShownTaps.{shown_bits, shown_signal}
-
--- ---- rows of outputs
-
-length-output_rows : (net : Net) (count : ℕ) (bits : ℕ → Valuation) → length (output_rows net count bits) ≡ count
-length-output_rows net zero bits = refl
-length-output_rows net (suc count) bits = ap suc (length-output_rows net count (λ n. bits (suc n)))
-
-row_at : (net : Net) (count : ℕ) (bits : ℕ → Valuation) (n : ℕ) → n < count
-    → get_or (output_rows net count bits) n [] ≡ output_row net (bits n)
-row_at net zero bits n below = absurd (omega (arith, below))
-row_at net (suc count) bits zero below = refl
-row_at net (suc count) bits (suc n) below = row_at net count (λ k. bits (suc k)) n (omega (arith, below))
 
 -- ---- a run
 
@@ -49,7 +37,7 @@ module _ (net : Net) (w : IsWellFormed net) (rows : List Row) (value : ℕ → O
     run_shows : Shows (lowered net) (length rows) value (output_rows net (length rows) (shown_bits net value))
     run_shows = record {
       count = length-output_rows net (length rows) (shown_bits net value);
-      each = λ n h. row_at net (length rows) (shown_bits net value) n h ∙ sym (same_row n h);
+      each = λ n h. get_or-output_rows net (length rows) (shown_bits net value) n [] h ∙ sym (same_row n h);
     }
 
     -- and the other way round
@@ -60,7 +48,7 @@ module _ (net : Net) (w : IsWellFormed net) (rows : List Row) (value : ℕ → O
         (shown.count ∙ sym (length-output_rows net (length rows) (shown_bits net value)))
         (λ n below.
         let h : n < length rows = omega (arith, below, shown.count) in
-        shown.each n h ∙ same_row n h ∙ sym (row_at net (length rows) (shown_bits net value) n h))
+        shown.each n h ∙ same_row n h ∙ sym (get_or-output_rows net (length rows) (shown_bits net value) n [] h))
 
     answers_shown : (answer : List Row) → answer ≡ output_rows net (length rows) (shown_bits net value)
         → Answers net (state_of (own_start net)) rows answer

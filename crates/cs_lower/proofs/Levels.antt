@@ -17,14 +17,14 @@ use Rattle.cs_net.proofs.MemoryPlaces.{map_at}
 use Rattle.cs_lower.specs.Lowered.{buffer, constants, is_used, pieces_of, wiring_of}
 use Rattle.cs_lower.specs.Matching.{IsVertex, Matches}
 use Rattle.cs_lower.specs.declared.taps.Tap.{Tap}
-use Rattle.cs_lower.specs.declared.taps.Tap.TheVariants.{Constant as of_bit, Register as of_register, Signal as of_signal, Vertex as of_vertex}
+use Rattle.cs_lower.specs.declared.taps.Tap.TheVariants.{Constant as of_bit, Held as of_held, Register as of_register, Signal as of_signal, Vertex as of_vertex}
 use Rattle.cs_lower.specs.declared.taps.Wire.TheVariants.{Vertex as from_vertex}
 use Rattle.cs_lower.specs.declared.taps.Piece.{Piece}
 use Rattle.cs_lower.specs.Taps.{piece}
 use Rattle.cs_lower.specs.Wires.{parts_of}
 use Rattle.cs_lower.proofs.FittingNets.{part_fits}
 use Rattle.cs_lower.proofs.FittingParts.{IsBefore}
-use Rattle.cs_lower.proofs.Places.{get_append}
+use Rattle.cs_graph.proofs.Lists.{get_append}
 use Rattle.cs_lower.proofs.SeenLemmas.{constant_piece}
 use Rattle.cs_lower.proofs.TrailEnds.{part_among}
 
@@ -66,12 +66,14 @@ tap_level place most (of_signal s) = signal_level place s
 tap_level place most (of_vertex v o) = most + v + 1
 tap_level place most (of_bit b) = 0
 tap_level place most (of_register b) = 0
+tap_level place most (of_held v start) = 0
 
 abbrev pub bit_level : (ℕ → ℕ) → Tap → ℕ
 bit_level place (of_signal s) = signal_level place s
 bit_level place (of_vertex v o) = 0
 bit_level place (of_bit b) = 0
 bit_level place (of_register b) = 0
+bit_level place (of_held v start) = 0
 
 -- above the places of all bits that pins read
 unfoldable pub bits_level : (ℕ → ℕ) → List Piece → ℕ
@@ -128,6 +130,7 @@ module _ (net : Net) (w : IsWellFormed net) (place : ℕ → ℕ) where
   tap_at_most n (of_vertex v o) before few = let less = before.0 in omega (arith, less)
   tap_at_most n (of_bit b) before few = omega arith
   tap_at_most n (of_register b) before few = absurd before
+  tap_at_most n (of_held v start) before few = omega arith
 
   part_level : (v : ℕ) (p : Piece) → slice_get (parts_of net).pieces v ≡ Some p
       → greatest (tap_level place (most net place)) p.pins ≤ most net place + v

@@ -1,5 +1,5 @@
 mod Examples
-pub mod FormedMemories
+mod WalkExamples
 pub mod BackLemmas
 pub mod RingLemmas
 pub mod PlainWires
@@ -9,7 +9,6 @@ pub mod TrailLemmas
 pub mod MeaningLemmas
 pub mod RegisterTrails
 pub mod Places
-pub mod BuiltGraphs
 pub mod NumberedPins
 pub mod SeenLemmas
 pub mod PieceValues
@@ -46,9 +45,21 @@ pub mod PortNumbers
 pub mod PortsInOrder
 pub mod ReadWidths
 pub mod LoweredMachine
+pub mod OneRing
+pub mod MetLemmas
+pub mod BitLists
+pub mod LeastLemmas
+pub mod SearchLemmas
+pub mod SortLemmas
+pub mod ReachLemmas
+pub mod PathLemmas
+pub mod TableLemmas
 mod DrivenLemmas
+mod StartLemmas
 mod PushedChains
 mod PushedParts
 mod PushedCells
 mod FewReads
 mod PushedPorts
+pub mod NextMemories
+pub mod MachineParts

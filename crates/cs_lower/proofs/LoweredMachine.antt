@@ -9,7 +9,7 @@ use Rattle.cs_graph.specs.declared.vertex.VertexKind.TheVariants.{Host}
 use Rattle.cs_graph.specs.Draft.{IsDraft, IsWithinLimits, open_kinds}
 use Rattle.cs_graph.specs.Invariant.{HasHost, HasMemories, HasMemory, IsMachine, IsWithinLimits as IsGraphWithinLimits, kinds}
 use Rattle.cs_graph.specs.Kinds.{pin_count}
-use Rattle.cs_lower.proofs.BuiltGraphs.{became, built_machine, kinds_from, length_edges_from, length_vertices_from, weight_from}
+use Rattle.cs_graph.proofs.BuiltLemmas.{became, built_machine, kinds_from, length_edges_from, length_vertices_from, weight_from}
 use Rattle.cs_net.specs.Invariant.{IsWellFormed}
 use Rattle.cs_net.specs.Netlist.{Net}
 use Rattle.cs_net.proofs.MemoryPlaces.{map_at}
@@ -22,7 +22,7 @@ use Rattle.cs_lower.proofs.FittingNets.{part_fits}
 use Rattle.cs_lower.proofs.Levels.{known}
 use Rattle.cs_lower.proofs.LoweredOrder.{lowered_order}
 use Rattle.cs_lower.proofs.PieceValues.{host_piece}
-use Rattle.cs_lower.proofs.Places.{get_left}
+use Rattle.cs_graph.proofs.Lists.{get_left}
 use Rattle.cs_lower.proofs.PortNumbers.{kinds_of, next_at}
 use Rattle.cs_lower.proofs.PortsInOrder.{all_next}
 use Rattle.cs_lower.proofs.ReadWidths.{few_outputs}

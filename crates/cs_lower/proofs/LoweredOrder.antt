@@ -10,17 +10,19 @@ use Rattle.cs_graph.specs.declared.source.OpenVertex.{OpenVertex}
 use Rattle.cs_graph.specs.declared.source.Source.{Source}
 use Rattle.cs_graph.specs.declared.source.Source.TheVariants.{Driven, Tied}
 use Rattle.cs_graph.specs.Invariant.{HasOrder}
-use Rattle.cs_lower.proofs.BuiltGraphs.{vertex_from}
+use Rattle.cs_graph.proofs.BuiltLemmas.{vertex_from}
 use Rattle.cs_net.specs.Drivers.{IsBitOrder, driver_of}
 use Rattle.cs_net.specs.Invariant.{IsWellFormed}
 use Rattle.cs_net.specs.Netlist.{Net}
 use Rattle.cs_net.proofs.Members.{of_all}
 use Rattle.cs_net.proofs.MemoryPlaces.{map_at}
-use Rattle.cs_lower.specs.Followed.{End, Trail, at_bit, at_vertex, behind_wire, ends}
+use Rattle.cs_lower.specs.Followed.{Trail, behind_wire, ends}
+use Rattle.cs_lower.specs.declared.taps.End.{End}
+use Rattle.cs_lower.specs.declared.taps.End.TheVariants.{Constant as at_bit, Vertex as at_vertex}
 use Rattle.cs_lower.specs.Lowered.{buffer, constant_source, constants, draft_of, lowered, pieces_of, source_by, source_of, trail_of, vertex_of, wiring_of}
 use Rattle.cs_lower.specs.Matching.{Matches}
 use Rattle.cs_lower.specs.declared.taps.Tap.{Tap}
-use Rattle.cs_lower.specs.declared.taps.Tap.TheVariants.{Constant as of_bit, Register as of_register, Signal as of_signal, Vertex as of_vertex}
+use Rattle.cs_lower.specs.declared.taps.Tap.TheVariants.{Constant as of_bit, Held as of_held, Register as of_register, Signal as of_signal, Vertex as of_vertex}
 use Rattle.cs_lower.specs.declared.taps.Wire.{Wire}
 use Rattle.cs_lower.specs.declared.taps.Wire.TheVariants.{Register as from_register, Vertex as from_vertex, Undriven as undriven}
 use Rattle.cs_lower.specs.declared.taps.Piece.{Piece}
@@ -142,6 +144,9 @@ module _ (net : Net) (w : IsWellFormed net) (place : ℕ → ℕ) (order : IsBit
   tap_rises n (of_bit b) before v o leads =
       absurd (bit_leads b v o (subst (λ t. LeadsAtOnce t v o) (trail_step net (of_bit b)) leads))
   tap_rises n (of_register b) before v o leads = absurd before
+  tap_rises n (of_held u start) before v o leads =
+      let led = subst (λ t. LeadsAtOnce t v o) (trail_step net (of_held u start)) leads in
+      absurd (past_leads start [] led.contents)
 
   part_rises : (v i u o : ℕ) (p : Piece) (t : Tap) → slice_get (pieces_of net ++ constants net) v ≡ Some p
       → slice_get (parts_of net).pieces v ≡ Some p → slice_get p.pins i ≡ Some t → LeadsAtOnce (trail_of net t) u o

@@ -78,9 +78,9 @@ matched_gate net n c kind stands =
 -- ---- registers
 
 -- a register that takes what its source is through its multiplexers
-takes : (net : Net) (n : ℕ) (q : Signal) (r : StateElement) (d : Tap) → IsSource net r.source d
+takes : (net : Net) (n : ℕ) (q : Signal × Bool) (r : StateElement) (d : Tap) → IsSource net r.source d
     → StandsIn net n (register_parts net n q r d).pieces
-    → AreMatched net ((q, register r) ∷ []) (register_parts net n q r d).wires
+    → AreMatched net ((q.0, register r) ∷ []) (register_parts net n q r d).wires
 takes net n q r d source stands =
     let from : TakesFrom net q r (register_chain net n q r d).last = record {
       first = n;
@@ -89,7 +89,7 @@ takes net n q r d source stands =
       stand = part_is (parts_of net).pieces n (register_chain net n q r d).pieces stands;
       last = refl;
     } in
-    (refl, from, tt)
+    (refl, (q.1, from), tt)
 
 -- ---- memories
 
@@ -113,7 +113,7 @@ matched_held net cell shape read v n (e ∷ bits) reads stands =
     let rest : Parts = in_turn (held_parts net cell shape read v) (n + length here.pieces) bits in
     matched_append net ((e.1, register (read_element cell shape read.1 read.0 e.0)) ∷ [])
     (map (λ e. (e.1, register (read_element cell shape read.1 read.0 e.0))) bits) here.wires rest.wires
-    (takes net n e.1 (read_element cell shape read.1 read.0 e.0) (of_vertex v e.0) (v, refl, reads)
+    (takes net n (e.1, get_or read.1.start e.0 false) (read_element cell shape read.1 read.0 e.0) (of_vertex v e.0) (v, refl, reads)
     (part_left (parts_of net).pieces n here.pieces rest.pieces stands))
     (matched_held net cell shape read v (n + length here.pieces) bits reads
     (part_right (parts_of net).pieces n here.pieces rest.pieces stands))
@@ -187,7 +187,7 @@ matched_class : (net : Net) (class : Class) (c : Placed) → HasName net c → (
     → AreMatched net (class_drives class c.cell c.shape) (class_parts net n class c).wires
 matched_class net (GateClass kind) c named n stands = matched_gate net n c kind stands
 matched_class net (Register kind) c named n stands =
-    takes net n (signal_of c.cell (codes "Q")) (register_of c.cell kind) (of_signal (signal_of c.cell (codes "D"))) refl
+    takes net n (signal_of c.cell (codes "Q"), false) (register_of c.cell kind) (of_signal (signal_of c.cell (codes "D"))) refl
     stands
 matched_class net Memory c named n stands = matched_memory net n c.memory c.cell c.shape named stands
 matched_class net Scope c named n stands = tt

@@ -7,7 +7,9 @@ use Rattle.cs_graph.specs.declared.edge.Edge.{Edge}
 use Rattle.cs_graph.specs.declared.graph.Graph.{Graph}
 use Rattle.cs_graph.specs.declared.vertex.Feed.TheVariants.{Edge as Along}
 use Rattle.cs_graph.specs.Run.{Outs, carried, seen, seen_edge}
-use Rattle.cs_lower.specs.Followed.{End, Trail, at_vertex, ends, past}
+use Rattle.cs_lower.specs.Followed.{Trail, ends, past}
+use Rattle.cs_lower.specs.declared.taps.End.{End}
+use Rattle.cs_lower.specs.declared.taps.End.TheVariants.{Vertex as at_vertex}
 use Rattle.cs_lower.specs.Meaning.{at_end, carried_by, shown}
 
 -- ---- clocks

@@ -1,6 +1,6 @@
 -- No register of a netlist takes what the tap of a register is.
 use Rattle.std.specs.Prelude.{if◌then◌else◌}
-use Rattle.std.proofs.Common.{ℕ, ◌+◌, Bool, true, false, List, [], ◌∷◌, length, map, Option, Some, None, codes}
+use Rattle.std.proofs.Common.{ℕ, ◌+◌, Bool, true, false, List, [], ◌∷◌, length, map, Option, Some, None, codes, get_or}
 use Rattle.std.specs.List.{enumerate_from}
 use Rattle.cs_base.specs.declared.signal.Signal.{Signal}
 use Rattle.cs_cells.specs.declared.class.Class.{Class}
@@ -12,7 +12,7 @@ use Rattle.cs_net.specs.declared.netlist.Cell.{Cell}
 use Rattle.cs_net.specs.Drivers.{StateElement, data_inputs, read_data, read_element, register_of, signal_of}
 use Rattle.cs_net.specs.Netlist.{Net}
 use Rattle.cs_lower.specs.Cells.{Datum, Placed, cell_parts, class_parts, data_parts, held_parts, memory_parts, placed_cells, read_parts, read_wires}
-use Rattle.cs_lower.specs.Registers.{Chain, always, mux, never, register_chain, register_parts, still, with_enable, with_piece, with_reset}
+use Rattle.cs_lower.specs.Registers.{Chain, always, held_tap, mux, never, register_chain, register_parts, still, with_enable, with_piece, with_reset}
 use Rattle.cs_lower.specs.declared.taps.Tap.{Tap}
 use Rattle.cs_lower.specs.declared.taps.Tap.TheVariants.{Constant as of_bit, Signal as of_signal, Vertex as of_vertex}
 use Rattle.cs_lower.specs.declared.taps.Wire.TheVariants.{Vertex as from_vertex}
@@ -41,10 +41,10 @@ plain_inputs k (s ∷ signals) = (tt, plain_inputs (k + 1) signals)
 plain_piece : (c : Chain) (p : Piece) → IsPlain (with_piece c p).last
 plain_piece c p = tt
 
-plain_enable : (net : Net) (q : Signal) (enable : Option Bool) (e : Signal) (c : Chain) → IsPlain c.last
-    → IsPlain (with_enable net q enable e c).last
-plain_enable net q None e c plain = plain
-plain_enable net q (Some high) e c plain = by (always high (still net e)) (mux high (of_signal q) c.last e)
+plain_enable : (net : Net) (held : Tap) (enable : Option Bool) (e : Signal) (c : Chain) → IsPlain c.last
+    → IsPlain (with_enable net held enable e c).last
+plain_enable net held None e c plain = plain
+plain_enable net held (Some high) e c plain = by (always high (still net e)) (mux high held c.last e)
   where
     by : (out : Bool) (p : Piece) → IsPlain (if out then c else with_piece c p).last
     by true p = plain
@@ -60,7 +60,7 @@ plain_reset net (Some reset) r c plain =
     by true p = plain
     by false p = tt
 
-plain_chain : (net : Net) (n : ℕ) (q : Signal) (r : StateElement) (d : Tap) → IsPlain d
+plain_chain : (net : Net) (n : ℕ) (q : Signal × Bool) (r : StateElement) (d : Tap) → IsPlain d
     → IsPlain (register_chain net n q r d).last
 plain_chain net n q r d plain = by r.kind.enable_over_reset
   where
@@ -72,14 +72,14 @@ plain_chain net n q r d plain = by r.kind.enable_over_reset
     }
 
     by : (over : Bool) → IsPlain (if over
-        then with_enable net q r.kind.enable r.enable (with_reset net r.kind.reset r.reset at_d)
-        else with_reset net r.kind.reset r.reset (with_enable net q r.kind.enable r.enable at_d)).last
-    by true = plain_enable net q r.kind.enable r.enable (with_reset net r.kind.reset r.reset at_d)
+        then with_enable net (held_tap net n q r) r.kind.enable r.enable (with_reset net r.kind.reset r.reset at_d)
+        else with_reset net r.kind.reset r.reset (with_enable net (held_tap net n q r) r.kind.enable r.enable at_d)).last
+    by true = plain_enable net (held_tap net n q r) r.kind.enable r.enable (with_reset net r.kind.reset r.reset at_d)
         (plain_reset net r.kind.reset r.reset at_d plain)
-    by false = plain_reset net r.kind.reset r.reset (with_enable net q r.kind.enable r.enable at_d)
-        (plain_enable net q r.kind.enable r.enable at_d plain)
+    by false = plain_reset net r.kind.reset r.reset (with_enable net (held_tap net n q r) r.kind.enable r.enable at_d)
+        (plain_enable net (held_tap net n q r) r.kind.enable r.enable at_d plain)
 
-plain_register : (net : Net) (n : ℕ) (q : Signal) (r : StateElement) (d : Tap) → IsPlain d
+plain_register : (net : Net) (n : ℕ) (q : Signal × Bool) (r : StateElement) (d : Tap) → IsPlain d
     → ArePlain (register_parts net n q r d).wires
 plain_register net n q r d plain = (plain_chain net n q r d plain, tt)
 
@@ -97,7 +97,7 @@ plain_data net cell shape read v = by read.1.clocked
         then in_turn (held_parts net cell shape read v) (v + 1) (read_data cell shape read.0)
         else read_wires v (read_data cell shape read.0)).wires
     by true = plain_in_turn (held_parts net cell shape read v) (v + 1) (read_data cell shape read.0)
-        (λ k e. plain_register net k e.1 (read_element cell shape read.1 read.0 e.0) (of_vertex v e.0) tt)
+        (λ k e. plain_register net k (e.1, get_or read.1.start e.0 false) (read_element cell shape read.1 read.0 e.0) (of_vertex v e.0) tt)
     by false = plain_read v (read_data cell shape read.0)
 
 plain_memory : (net : Net) (n memory : ℕ) (cell : Cell) (shape : Option MemShape)
@@ -112,7 +112,7 @@ plain_memory net n memory cell (Some shape) =
 
 plain_class : (net : Net) (n : ℕ) (class : Class) (c : Placed) → ArePlain (class_parts net n class c).wires
 plain_class net n (Gate kind) c = (tt, tt)
-plain_class net n (Register kind) c = plain_register net n (signal_of c.cell (codes "Q")) (register_of c.cell kind)
+plain_class net n (Register kind) c = plain_register net n (signal_of c.cell (codes "Q"), false) (register_of c.cell kind)
     (of_signal (signal_of c.cell (codes "D"))) tt
 plain_class net n Memory c = plain_memory net n c.memory c.cell c.shape
 plain_class net n Scope c = tt

@@ -58,14 +58,15 @@ source_shown net tap words v shows reads (from_word w) d (vertex, is, reading) =
 -- a register's bit holds next what the register takes
 pub next_taken : (net : Net) (row : Row) (now : NetState) (v : Valuation) → Settles net row now v → (tap : Tap → Bool)
     → ((b : Bool) → tap (of_bit b) ≡ b) → ShowsSignals tap v → ShowsGates net tap → ShowsReads net tap now.words v
-    → (b : ℕ) (r : StateElement) (taken : Tap) → driver_of net b ≡ register r → TakesFrom net (Bit b) r taken
+    → (b : ℕ) (start : Bool) (r : StateElement) (taken : Tap) → driver_of net b ≡ register r
+    → TakesFrom net (Bit b, start) r taken
     → tap taken ≡ next_bit (driver_of net b) (now.bit b) now.words v
-next_taken net row now v settles tap bits shows gates reads b r taken is from =
+next_taken net row now v settles tap bits shows gates reads b start r taken is from =
     let constants : ShowsConstants net tap = settled_constants net row now v settles tap bits shows in
     let source = source_shown net tap now.words v shows reads r.source from.d from.source in
     let held : tap (of_signal (Bit b)) ≡ now.bit b =
     shows (Bit b) ∙ settles b ∙ ap (λ driver. value_by driver b row now v) is in
-    taken_value net tap constants gates (Bit b) r taken from
+    taken_value net tap constants gates (Bit b, start) r taken from
     ∙ ap₂ (λ d q. next_value r.kind d q (tap (of_signal r.enable)) (tap (of_signal r.reset))) source held
     ∙ ap₂ (λ e reset. next_value r.kind (source_value r.source now.words v) (now.bit b) e reset) (shows r.enable)
     (shows r.reset)

@@ -13,7 +13,7 @@ use Rattle.cs_graph.specs.declared.vertex.Feed.TheVariants.{Edge as Along, Tied}
 use Rattle.cs_graph.specs.declared.vertex.Vertex.{Vertex}
 use Rattle.cs_graph.specs.Draft.{Draft, built, driven, edge_into, edges_from, edges_into, feed_of, feeds_from, vertices_from}
 use Rattle.cs_graph.proofs.NumberingLemmas.{length_edge_into, length_edges_into, length_feeds_from}
-use Rattle.cs_lower.proofs.Places.{get_left, get_right}
+use Rattle.cs_graph.proofs.Lists.{get_left, get_right}
 
 -- ---- edges
 

@@ -18,7 +18,7 @@ use Rattle.cs_lower.specs.Lowered.{buffer, constants, lowered, pieces_of, wiring
 use Rattle.cs_lower.specs.declared.taps.Piece.{Piece}
 use Rattle.cs_lower.specs.Taps.{in_turn, piece}
 use Rattle.cs_lower.specs.Wires.{input_parts, output_parts, parts_of, port_parts}
-use Rattle.cs_lower.proofs.Places.{get_left}
+use Rattle.cs_graph.proofs.Lists.{get_left}
 use Rattle.cs_lower.proofs.SeenLemmas.{PieceAt, gives, piece_at, sees, shows}
 
 -- ---- how many inputs stand before a vertex

@@ -5,32 +5,6 @@ use Rattle.std.specs.List.{list_any}
 use Rattle.std.proofs.lemmas.List.Folds.{list_any_at}
 use Rattle.std.proofs.lemmas.Option.{get_or_from_slice_get, none-some, slice_get_within}
 
--- ---- two lists in a row
-
--- a place of the first list is one of both
-pub get_left : {A : Type 0} (xs ys : List A) (i : ℕ) (x : A) → slice_get xs i ≡ Some x
-    → slice_get (xs ++ ys) i ≡ Some x
-get_left [] ys i x h = absurd (none-some x h)
-get_left (z ∷ xs) ys zero x h = h
-get_left (z ∷ xs) ys (suc i) x h = get_left xs ys i x h
-
--- the places of the second list come after those of the first
-pub get_right : {A : Type 0} (xs ys : List A) (i k : ℕ) → i ≡ length xs + k
-    → slice_get (xs ++ ys) i ≡ slice_get ys k
-get_right [] ys i k is = ap (slice_get ys) (is ∙ omega arith)
-get_right (z ∷ xs) ys zero k is = absurd (omega (arith, is))
-get_right (z ∷ xs) ys (suc i) k is = get_right xs ys i k (omega (arith, is))
-
--- each place of both lists is one of the first or of the second
-pub get_append : {A : Type 0} (xs ys : List A) (i : ℕ) (x : A) → slice_get (xs ++ ys) i ≡ Some x
-    → (slice_get xs i ≡ Some x) ⊎ ((k : ℕ) × (i ≡ length xs + k) × (slice_get ys k ≡ Some x))
-get_append [] ys i x h = inr (i, omega arith, h)
-get_append (z ∷ xs) ys zero x h = inl h
-get_append (z ∷ xs) ys (suc i) x h = elim (get_append xs ys i x h) [
-  | inl left ↦ inl left
-  | inr (k, is, right) ↦ inr (k, omega (arith, is), right)
-]
-
 -- one item that passes a test
 pub any_place : {A : Type 0} (test : A → Bool) (xs : List A) (i : ℕ) (x : A) → slice_get xs i ≡ Some x
     → test x ≡ true → list_any test xs ≡ true

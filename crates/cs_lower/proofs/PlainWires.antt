@@ -4,7 +4,7 @@ use Rattle.std.specs.List.{AllByRecursion}
 use Rattle.cs_base.specs.declared.signal.Signal.{Signal}
 use Rattle.cs_modules.specs.Signals.{is_bit}
 use Rattle.cs_lower.specs.declared.taps.Tap.{Tap}
-use Rattle.cs_lower.specs.declared.taps.Tap.TheVariants.{Constant as of_bit, Register as of_register, Signal as of_signal, Vertex as of_vertex}
+use Rattle.cs_lower.specs.declared.taps.Tap.TheVariants.{Constant as of_bit, Held as of_held, Register as of_register, Signal as of_signal, Vertex as of_vertex}
 use Rattle.cs_lower.specs.declared.taps.Wire.{Wire}
 use Rattle.cs_lower.specs.declared.taps.Wire.TheVariants.{Register as from_register, Vertex as from_vertex, Undriven as undriven}
 use Rattle.cs_lower.specs.Wires.{wire_in}
@@ -15,6 +15,7 @@ IsPlain (of_signal s) = Unit {0}
 IsPlain (of_vertex v o) = Unit {0}
 IsPlain (of_bit b) = Unit {0}
 IsPlain (of_register b) = ⊥
+IsPlain (of_held v start) = ⊥
 
 -- a wire that takes such a tap, if any
 abbrev pub IsPlainWire : Wire → Type 0

@@ -1,6 +1,6 @@
 -- The read and write ports among a netlist's vertices are numbered in order, memory by memory.
 use Rattle.std.specs.Prelude.{if◌then◌else◌}
-use Rattle.std.proofs.Common.{◌≡◌, ℕ, zero, suc, ◌+◌, ◌≤◌, Bool, true, false, List, [], ◌∷◌, ◌++◌, length, map, Option, Some, None, codes, refl, sym, ap, subst, arith}
+use Rattle.std.proofs.Common.{◌≡◌, ℕ, zero, suc, ◌+◌, ◌≤◌, Bool, true, false, List, [], ◌∷◌, ◌++◌, length, map, Option, Some, None, codes, refl, sym, ap, subst, arith, get_or}
 use Rattle.std.specs.List.{AllByRecursion, enumerate_from}
 use Rattle.std.proofs.lemmas.List.{map-append}
 use Rattle.cs_base.specs.declared.signal.Signal.{Signal}
@@ -43,7 +43,7 @@ none_of_muxes : (pieces : List Piece) → AllByRecursion (λ p. p.kind ≡ Gate 
 none_of_muxes [] muxes = tt
 none_of_muxes (p ∷ pieces) muxes = (subst HasNoPort (sym muxes.0) tt, none_of_muxes pieces muxes.1)
 
-pub none_of_register : (net : Net) (n : ℕ) (q : Signal) (r : StateElement) (d : Tap)
+pub none_of_register : (net : Net) (n : ℕ) (q : Signal × Bool) (r : StateElement) (d : Tap)
     → HaveNoPorts (register_parts net n q r d).pieces
 none_of_register net n q r d = none_of_muxes (register_chain net n q r d).pieces (chain_muxes net n q r d).muxes
 
@@ -62,7 +62,7 @@ none_of_data net cell shape read v = by read.1.clocked
         then in_turn (held_parts net cell shape read v) (v + 1) (read_data cell shape read.0)
         else read_wires v (read_data cell shape read.0)).pieces
     by true = none_in_turn (held_parts net cell shape read v) (v + 1) (read_data cell shape read.0)
-        (λ k e. none_of_register net k e.1 (read_element cell shape read.1 read.0 e.0) (of_vertex v e.0))
+        (λ k e. none_of_register net k (e.1, get_or read.1.start e.0 false) (read_element cell shape read.1 read.0 e.0) (of_vertex v e.0))
     by false = tt
 
 none_of_inputs : (signals : List Signal) → HaveNoPorts (map (λ s. piece Input []) signals)
@@ -194,7 +194,7 @@ unshaped_goes_on : (net : Net) (class : Class) (n j : ℕ) (cell : Cell) (before
 unshaped_goes_on net (GateClass kind) n j cell before below = plain_goes_on before _ j j (omega arith) below (tt, tt)
 unshaped_goes_on net (Register kind) n j cell before below =
     plain_goes_on before _ j j (omega arith) below
-    (none_of_register net n (signal_of cell (codes "Q")) (register_of cell kind)
+    (none_of_register net n (signal_of cell (codes "Q"), false) (register_of cell kind)
     (of_signal (signal_of cell (codes "D"))))
 unshaped_goes_on net Memory n j cell before below = plain_goes_on before [] j j (omega arith) below tt
 unshaped_goes_on net Scope n j cell before below = plain_goes_on before [] j j (omega arith) below tt
@@ -208,7 +208,7 @@ shaped_goes_on net (GateClass kind) n j cell shape before below =
     plain_goes_on before _ j (j + 1) (omega arith) below (tt, tt)
 shaped_goes_on net (Register kind) n j cell shape before below =
     plain_goes_on before _ j (j + 1) (omega arith) below
-    (none_of_register net n (signal_of cell (codes "Q")) (register_of cell kind)
+    (none_of_register net n (signal_of cell (codes "Q"), false) (register_of cell kind)
     (of_signal (signal_of cell (codes "D"))))
 shaped_goes_on net Memory n j cell shape before below = memory_goes_on net n j cell shape before below
 shaped_goes_on net Scope n j cell shape before below = plain_goes_on before [] j (j + 1) (omega arith) below tt

@@ -1,5 +1,5 @@
 -- The vertices of cells, as they are pushed.
-use Rattle.std.proofs.Common.{◌≡◌, ℕ, codes, ap, ◌∙◌}
+use Rattle.std.proofs.Common.{◌≡◌, ℕ, codes, ap, ◌∙◌, false}
 use Rattle.cs_base.specs.declared.signal.Signal.{Signal}
 use Rattle.cs_cells.specs.declared.memory.MemShape.{MemShape}
 use Rattle.cs_cells.specs.declared.memory.ReadShape.{ReadShape}
@@ -17,13 +17,13 @@ use Rattle.cs_lower.specs.Registers.{element_of, register_parts}
 pub register_cell_is : (net : Net) (n : ℕ) (cell : Cell) (kind : FfKind) (q e r d : Signal)
     → q ≡ signal_of cell (codes "Q") → e ≡ signal_of cell (codes "E") → r ≡ signal_of cell (codes "R")
     → d ≡ signal_of cell (codes "D")
-    → (let pins : RegisterPins = record { kind = kind; q = q; enable = e; reset = r } in
-    register_parts net n q (element_of (from_signal (signal_of cell (codes "D"))) pins) (of_signal d))
+    → (let pins : RegisterPins = record { kind = kind; q = q; start = false; enable = e; reset = r } in
+    register_parts net n (q, false) (element_of (from_signal (signal_of cell (codes "D"))) pins) (of_signal d))
     ≡ register_cell_parts net n cell kind
 register_cell_is net n cell kind q e r d qs es rs ds =
     let parts : Signal → Signal → Signal → Signal → Parts = λ a b c f.
-    let pins : RegisterPins = record { kind = kind; q = a; enable = b; reset = c } in
-    register_parts net n a (element_of (from_signal (signal_of cell (codes "D"))) pins) (of_signal f) in
+    let pins : RegisterPins = record { kind = kind; q = a; start = false; enable = b; reset = c } in
+    register_parts net n (a, false) (element_of (from_signal (signal_of cell (codes "D"))) pins) (of_signal f) in
     ap (λ x. parts x e r d) qs ∙ ap (λ x. parts (signal_of cell (codes "Q")) x r d) es
     ∙ ap (λ x. parts (signal_of cell (codes "Q")) (signal_of cell (codes "E")) x d) rs
     ∙ ap (λ x. parts (signal_of cell (codes "Q")) (signal_of cell (codes "E")) (signal_of cell (codes "R")) x) ds
@@ -31,7 +31,7 @@ register_cell_is net n cell kind q e r d qs es rs ds =
 -- the register of a data bit, by its pins
 pub held_is : (net : Net) (n : ℕ) (cell : Cell) (shape : MemShape) (read : ℕ × ReadShape) (v : ℕ) (e : Datum) (pins : RegisterPins)
     → pins ≡ read_pins cell read e
-    → register_parts net n pins.q (element_of (from_word (read_word_bit cell shape read.0 e.0)) pins) (of_vertex v e.0)
+    → register_parts net n (pins.q, pins.start) (element_of (from_word (read_word_bit cell shape read.0 e.0)) pins) (of_vertex v e.0)
     ≡ held_parts net cell shape read v n e
 held_is net n cell shape read v e pins is =
-    ap (λ (p : RegisterPins). register_parts net n p.q (element_of (from_word (read_word_bit cell shape read.0 e.0)) p) (of_vertex v e.0)) is
+    ap (λ (p : RegisterPins). register_parts net n (p.q, p.start) (element_of (from_word (read_word_bit cell shape read.0 e.0)) p) (of_vertex v e.0)) is

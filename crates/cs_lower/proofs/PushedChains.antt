@@ -11,7 +11,7 @@ use Rattle.cs_lower.specs.declared.taps.Piece.{Piece}
 use Rattle.cs_lower.specs.declared.taps.Tap.{Tap}
 use Rattle.cs_lower.specs.declared.taps.Tap.TheVariants.{Constant as of_bit, Signal as of_signal, Vertex as of_vertex}
 use Rattle.cs_lower.specs.declared.taps.Wire.TheVariants.{Register as from_register}
-use Rattle.cs_lower.specs.Registers.{Chain, IsPushed, always, element_of, mux, never, no_chain, register_chain, still, with_enable, with_piece, with_reset}
+use Rattle.cs_lower.specs.Registers.{Chain, IsPushed, always, element_of, held_tap, mux, never, no_chain, register_chain, still, with_enable, with_piece, with_reset}
 use Rattle.cs_lower.specs.Taps.{both, with_pieces, with_wire}
 
 -- a chain that goes on by another
@@ -35,10 +35,10 @@ maybe_more : (out : Bool) (c : Chain) (p : Tap → Piece)
 maybe_more true c p = no_more c
 maybe_more false c p = one_more c (p c.last)
 
-enable_goes_on : (net : Net) (q e : Signal) (enable : Option Bool) (c : Chain)
-    → with_enable net q enable e c ≡ joined c (with_enable net q enable e (rest_of c))
-enable_goes_on net q e None c = no_more c
-enable_goes_on net q e (Some high) c = maybe_more (always high (still net e)) c (λ last. mux high (of_signal q) last e)
+enable_goes_on : (net : Net) (held : Tap) (e : Signal) (enable : Option Bool) (c : Chain)
+    → with_enable net held enable e c ≡ joined c (with_enable net held enable e (rest_of c))
+enable_goes_on net held e None c = no_more c
+enable_goes_on net held e (Some high) c = maybe_more (always high (still net e)) c (λ last. mux high held last e)
 
 reset_goes_on : (net : Net) (r : Signal) (reset : Option ResetKind) (c : Chain)
     → with_reset net reset r c ≡ joined c (with_reset net reset r (rest_of c))
@@ -48,12 +48,12 @@ reset_goes_on net r (Some reset) c =
 
 -- ---- pushed
 
-enable_first : (net : Net) (q e : Signal) (enable : Option Bool) (n : ℕ) (d : Tap)
-    → (with_enable net q enable e (no_chain n d)).first ≡ n
-enable_first net q e None n d = refl
-enable_first net q e (Some high) n d = by (always high (still net e))
+enable_first : (net : Net) (held : Tap) (e : Signal) (enable : Option Bool) (n : ℕ) (d : Tap)
+    → (with_enable net held enable e (no_chain n d)).first ≡ n
+enable_first net held e None n d = refl
+enable_first net held e (Some high) n d = by (always high (still net e))
   where
-    by : (out : Bool) → (if out then no_chain n d else with_piece (no_chain n d) (mux high (of_signal q) d e)).first ≡ n
+    by : (out : Bool) → (if out then no_chain n d else with_piece (no_chain n d) (mux high held d e)).first ≡ n
     by true = refl
     by false = refl
 
@@ -81,50 +81,60 @@ goes_on step joins old middle new c last end first start next =
     )
 
 -- an enable after a reset
-pub enable_after : (net : Net) (q e r : Signal) (enable : Option Bool) (reset : Option ResetKind) (old middle new : Parts) (d last end : Tap)
+pub enable_after : (net : Net) (held : Tap) (e r : Signal) (enable : Option Bool) (reset : Option ResetKind) (old middle new : Parts) (d last end : Tap)
     → IsPushed old (with_reset net reset r (no_chain (length old.pieces) d)) middle last
-    → IsPushed middle (with_enable net q enable e (no_chain (length middle.pieces) last)) new end
-    → IsPushed old (with_enable net q enable e (with_reset net reset r (no_chain (length old.pieces) d))) new end
-enable_after net q e r enable reset old middle new d last end start next =
-    goes_on (with_enable net q enable e) (enable_goes_on net q e enable) old middle new
+    → IsPushed middle (with_enable net held enable e (no_chain (length middle.pieces) last)) new end
+    → IsPushed old (with_enable net held enable e (with_reset net reset r (no_chain (length old.pieces) d))) new end
+enable_after net held e r enable reset old middle new d last end start next =
+    goes_on (with_enable net held enable e) (enable_goes_on net held e enable) old middle new
     (with_reset net reset r (no_chain (length old.pieces) d)) last end (reset_first net r reset (length old.pieces) d) start next
 
 -- a reset after an enable
-pub reset_after : (net : Net) (q e r : Signal) (enable : Option Bool) (reset : Option ResetKind) (old middle new : Parts) (d last end : Tap)
-    → IsPushed old (with_enable net q enable e (no_chain (length old.pieces) d)) middle last
+pub reset_after : (net : Net) (held : Tap) (e r : Signal) (enable : Option Bool) (reset : Option ResetKind) (old middle new : Parts) (d last end : Tap)
+    → IsPushed old (with_enable net held enable e (no_chain (length old.pieces) d)) middle last
     → IsPushed middle (with_reset net reset r (no_chain (length middle.pieces) last)) new end
-    → IsPushed old (with_reset net reset r (with_enable net q enable e (no_chain (length old.pieces) d))) new end
-reset_after net q e r enable reset old middle new d last end start next =
+    → IsPushed old (with_reset net reset r (with_enable net held enable e (no_chain (length old.pieces) d))) new end
+reset_after net held e r enable reset old middle new d last end start next =
     goes_on (with_reset net reset r) (reset_goes_on net r reset) old middle new
-    (with_enable net q enable e (no_chain (length old.pieces) d)) last end (enable_first net q e enable (length old.pieces) d) start next
+    (with_enable net held enable e (no_chain (length old.pieces) d)) last end (enable_first net held e enable (length old.pieces) d) start next
 
 -- ---- registers
 
-pub reset_then_enable : (net : Net) (source : Source) (pins : RegisterPins) (old middle new : Parts) (d last end : Tap)
-    → pins.kind.enable_over_reset ≡ true
-    → IsPushed old (with_reset net pins.kind.reset pins.reset (no_chain (length old.pieces) d)) middle last
-    → IsPushed middle (with_enable net pins.q pins.kind.enable pins.enable (no_chain (length middle.pieces) last)) new end
-    → IsPushed old (register_chain net (length old.pieces) pins.q (element_of source pins) d) new end
-reset_then_enable net source pins old middle new d last end over start next =
-    let at_d = no_chain (length old.pieces) d in
-    subst (λ (o : Bool). IsPushed old (if o
-    then with_enable net pins.q pins.kind.enable pins.enable (with_reset net pins.kind.reset pins.reset at_d)
-    else with_reset net pins.kind.reset pins.reset (with_enable net pins.q pins.kind.enable pins.enable at_d)) new end)
-    (sym over)
-    (enable_after net pins.q pins.enable pins.reset pins.kind.enable pins.kind.reset old middle new d last end start next)
+-- where the tap that the enable's mux reads is what the register holds
+module _ (net : Net) (source : Source) (pins : RegisterPins) (old middle new : Parts) (d last end held : Tap)
+    (is : held ≡ held_tap net (length old.pieces) (pins.q, pins.start) (element_of source pins))
+  where
+    abbrev own : Tap
+    own = held_tap net (length old.pieces) (pins.q, pins.start) (element_of source pins)
 
-pub enable_then_reset : (net : Net) (source : Source) (pins : RegisterPins) (old middle new : Parts) (d last end : Tap)
-    → pins.kind.enable_over_reset ≡ false
-    → IsPushed old (with_enable net pins.q pins.kind.enable pins.enable (no_chain (length old.pieces) d)) middle last
-    → IsPushed middle (with_reset net pins.kind.reset pins.reset (no_chain (length middle.pieces) last)) new end
-    → IsPushed old (register_chain net (length old.pieces) pins.q (element_of source pins) d) new end
-enable_then_reset net source pins old middle new d last end over start next =
-    let at_d = no_chain (length old.pieces) d in
-    subst (λ (o : Bool). IsPushed old (if o
-    then with_enable net pins.q pins.kind.enable pins.enable (with_reset net pins.kind.reset pins.reset at_d)
-    else with_reset net pins.kind.reset pins.reset (with_enable net pins.q pins.kind.enable pins.enable at_d)) new end)
-    (sym over)
-    (reset_after net pins.q pins.enable pins.reset pins.kind.enable pins.kind.reset old middle new d last end start next)
+    abbrev at_d : Chain
+    at_d = no_chain (length old.pieces) d
+
+    pub reset_then_enable : pins.kind.enable_over_reset ≡ true
+        → IsPushed old (with_reset net pins.kind.reset pins.reset (no_chain (length old.pieces) d)) middle last
+        → IsPushed middle (with_enable net held pins.kind.enable pins.enable (no_chain (length middle.pieces) last)) new end
+        → IsPushed old (register_chain net (length old.pieces) (pins.q, pins.start) (element_of source pins) d) new end
+    reset_then_enable over start next =
+        let here = subst (λ h. IsPushed middle
+        (with_enable net h pins.kind.enable pins.enable (no_chain (length middle.pieces) last)) new end) is next in
+        subst (λ (o : Bool). IsPushed old (if o
+        then with_enable net own pins.kind.enable pins.enable (with_reset net pins.kind.reset pins.reset at_d)
+        else with_reset net pins.kind.reset pins.reset (with_enable net own pins.kind.enable pins.enable at_d)) new end)
+        (sym over)
+        (enable_after net own pins.enable pins.reset pins.kind.enable pins.kind.reset old middle new d last end start here)
+
+    pub enable_then_reset : pins.kind.enable_over_reset ≡ false
+        → IsPushed old (with_enable net held pins.kind.enable pins.enable (no_chain (length old.pieces) d)) middle last
+        → IsPushed middle (with_reset net pins.kind.reset pins.reset (no_chain (length middle.pieces) last)) new end
+        → IsPushed old (register_chain net (length old.pieces) (pins.q, pins.start) (element_of source pins) d) new end
+    enable_then_reset over start next =
+        let here = subst (λ h. IsPushed old
+        (with_enable net h pins.kind.enable pins.enable (no_chain (length old.pieces) d)) middle last) is start in
+        subst (λ (o : Bool). IsPushed old (if o
+        then with_enable net own pins.kind.enable pins.enable (with_reset net pins.kind.reset pins.reset at_d)
+        else with_reset net pins.kind.reset pins.reset (with_enable net own pins.kind.enable pins.enable at_d)) new end)
+        (sym over)
+        (reset_after net own pins.enable pins.reset pins.kind.enable pins.kind.reset old middle new d last end here next)
 
 -- the wire of a register follows its vertices
 pub register_pushed : (old middle new : Parts) (c : Chain) (q : Signal) (last : Tap) → IsPushed old c middle last

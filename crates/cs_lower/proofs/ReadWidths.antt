@@ -110,9 +110,9 @@ module _ (ms : List GraphMemory) where
   unshaped_outputs net (GateClass kind) n j cell = plain_outputs (gate_parts n cell kind).pieces (tt, tt)
   unshaped_outputs net (Register kind) n j cell =
       let pieces : List Piece =
-      (register_parts net n (signal_of cell (codes "Q")) (register_of cell kind)
+      (register_parts net n (signal_of cell (codes "Q"), false) (register_of cell kind)
       (of_signal (signal_of cell (codes "D")))).pieces in
-      plain_outputs pieces (none_of_register net n (signal_of cell (codes "Q")) (register_of cell kind)
+      plain_outputs pieces (none_of_register net n (signal_of cell (codes "Q"), false) (register_of cell kind)
       (of_signal (signal_of cell (codes "D"))))
   unshaped_outputs net Memory n j cell = refl
   unshaped_outputs net Scope n j cell = refl
@@ -130,9 +130,9 @@ module _ (ms : List GraphMemory) where
       (plain_outputs (gate_parts n cell kind).pieces (tt, tt))
   shaped_outputs net (Register kind) n j cell shape wide =
       let pieces : List Piece =
-      (register_parts net n (signal_of cell (codes "Q")) (register_of cell kind)
+      (register_parts net n (signal_of cell (codes "Q"), false) (register_of cell kind)
       (of_signal (signal_of cell (codes "D")))).pieces in
-      few_where_none pieces (read_bits shape) (plain_outputs pieces (none_of_register net n (signal_of cell (codes "Q"))
+      few_where_none pieces (read_bits shape) (plain_outputs pieces (none_of_register net n (signal_of cell (codes "Q"), false)
       (register_of cell kind) (of_signal (signal_of cell (codes "D")))))
   shaped_outputs net Memory n j cell shape wide =
       let same = memory_outputs net j cell shape wide n in omega (arith, same)

@@ -5,7 +5,8 @@ use Rattle.std.specs.List.{position_from}
 use Rattle.cs_base.specs.declared.signal.Signal.TheVariants.{Bit}
 use Rattle.cs_graph.specs.Run.{Outs}
 use Rattle.cs_net.specs.Netlist.{Net}
-use Rattle.cs_lower.specs.Followed.{at_bit, at_vertex, behind_wire}
+use Rattle.cs_lower.specs.Followed.{behind_wire}
+use Rattle.cs_lower.specs.declared.taps.End.TheVariants.{Constant as at_bit, Vertex as at_vertex}
 use Rattle.cs_lower.specs.Lowered.{trail_of, wiring_of}
 use Rattle.cs_lower.specs.Meaning.{shown}
 use Rattle.cs_lower.specs.declared.taps.Tap.{Tap}

@@ -10,8 +10,9 @@ use Rattle.cs_modules.specs.Signals.{is_bit, number_in}
 use Rattle.cs_lower.specs.Rings.{bit_behind, in_order, in_place, is_ring, met, rings}
 use Rattle.cs_lower.specs.declared.taps.Wire.{Wire}
 use Rattle.cs_lower.specs.declared.taps.Wire.TheVariants.{Undriven as undriven}
+use Rattle.cs_lower.specs.Walks.{back}
 use Rattle.cs_lower.specs.Wires.{wire_in}
-use Rattle.cs_lower.proofs.BackLemmas.{back, back_join, back_none, least_or_less, reached_is_met}
+use Rattle.cs_lower.proofs.BackLemmas.{back_join, back_none, least_or_less, reached_is_met}
 
 -- ---- loops
 

@@ -11,7 +11,8 @@ use Rattle.cs_graph.specs.declared.vertex.Vertex.{Vertex}
 use Rattle.cs_graph.specs.declared.vertex.VertexKind.TheVariants.{Constant}
 use Rattle.cs_graph.specs.Run.{Outs, Row, RunsFor, carried, inputs_before, output_of, seen, seen_edge, vertex_output}
 use Rattle.cs_net.specs.Netlist.{Net}
-use Rattle.cs_lower.specs.Followed.{End, at_bit, at_vertex}
+use Rattle.cs_lower.specs.declared.taps.End.{End}
+use Rattle.cs_lower.specs.declared.taps.End.TheVariants.{Constant as at_bit, Vertex as at_vertex}
 use Rattle.cs_lower.specs.Lowered.{constant_number, constants, draft_of, is_used, lowered, needs_constant, pieces_of, source_by, source_of, trail_of, vertex_of}
 use Rattle.cs_lower.specs.Meaning.{carried_by, shown}
 use Rattle.cs_lower.specs.declared.taps.Tap.{Tap}
@@ -19,7 +20,8 @@ use Rattle.cs_lower.specs.declared.taps.Piece.{Piece}
 use Rattle.cs_lower.specs.Taps.{piece}
 use Rattle.cs_lower.proofs.MeaningLemmas.{seen_is_shown, shown_ends}
 use Rattle.cs_lower.proofs.NumberedPins.{PinAt, Reads, built_vertex, edge_by}
-use Rattle.cs_lower.proofs.Places.{any_place, get_append, get_right, map_alike}
+use Rattle.cs_graph.proofs.Lists.{get_append, get_right}
+use Rattle.cs_lower.proofs.Places.{any_place, map_alike}
 
 -- what a tap shows at clock n
 abbrev pub shows : Net → (ℕ → Outs) → ℕ → Tap → Bool

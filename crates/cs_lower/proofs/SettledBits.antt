@@ -28,7 +28,7 @@ use Rattle.cs_lower.proofs.MemoryCells.{IsMemory, cell_of_memory}
 use Rattle.cs_lower.proofs.NextLemmas.{ShowsReads}
 use Rattle.cs_lower.proofs.PaddedWords.{IsPadded, reads_padded}
 use Rattle.cs_lower.proofs.PieceValues.{gate_gives, input_gives, read_gives}
-use Rattle.cs_lower.proofs.Places.{get_left}
+use Rattle.cs_graph.proofs.Lists.{get_left}
 use Rattle.cs_lower.proofs.RegisterTrails.{free_undriven, free_vertex}
 use Rattle.cs_lower.proofs.SeenLemmas.{shows}
 use Rattle.cs_lower.proofs.SeenMemories.{taps_of_signals}
@@ -52,16 +52,16 @@ named_memory (Some own) name is = (own, refl, same_Some own.name name is)
 
 -- the register of a bit takes what it does in the netlist
 pub register_taken : (net : Net) → IsWellFormed net → (b : ℕ) (r : StateElement) → driver_of net b ≡ register r
-    → (d : Tap) × (wire_in (wiring_of net).wires b ≡ from_register d) × TakesFrom net (Bit b) r d
+    → (d : Tap) × (wire_in (wiring_of net).wires b ≡ from_register d) × (start : Bool) × TakesFrom net (Bit b, start) r d
 register_taken net w b r is =
     by (wire_in (wiring_of net).wires b) refl
     (subst (λ driver. Matches net (Bit b) driver (wire_in (parts_of net).wires b)) is (matches net (well_named net w) b))
   where
     by : (wire : Wire) → wire_in (wiring_of net).wires b ≡ wire → Matches net (Bit b) (register r) wire
-        → (d : Tap) × (wire_in (wiring_of net).wires b ≡ from_register d) × TakesFrom net (Bit b) r d
+        → (d : Tap) × (wire_in (wiring_of net).wires b ≡ from_register d) × (start : Bool) × TakesFrom net (Bit b, start) r d
     by undriven wired matched = absurd matched
     by (from_vertex v o) wired matched = absurd matched
-    by (from_register d) wired matched = (d, wired, matched)
+    by (from_register d) wired matched = (d, wired, matched.0, matched.1)
 
 -- ---- a run
 

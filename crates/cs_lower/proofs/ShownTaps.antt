@@ -11,7 +11,7 @@ use Rattle.cs_cells.specs.Memories.{Words}
 use Rattle.cs_graph.specs.Run.{Outs, Row, RunsFor}
 use Rattle.cs_net.specs.Netlist.{Net}
 use Rattle.cs_net.specs.Trace.{Valuation, signal_value}
-use Rattle.cs_lower.specs.Followed.{at_bit, at_vertex}
+use Rattle.cs_lower.specs.declared.taps.End.TheVariants.{Constant as at_bit, Vertex as at_vertex}
 use Rattle.cs_lower.specs.Lowered.{buffer, lowered, pieces_of, wiring_of}
 use Rattle.cs_lower.specs.Meaning.{shown}
 use Rattle.cs_lower.specs.Rings.{rings}
@@ -22,7 +22,7 @@ use Rattle.cs_lower.specs.declared.taps.Wire.TheVariants.{Register as from_regis
 use Rattle.cs_lower.specs.Wires.{parts_of, wire_in}
 use Rattle.cs_lower.proofs.MeaningLemmas.{shown_ends}
 use Rattle.cs_lower.proofs.PieceValues.{gate_gives}
-use Rattle.cs_lower.proofs.Places.{get_right}
+use Rattle.cs_graph.proofs.Lists.{get_right}
 use Rattle.cs_lower.proofs.RegisterTrails.{free_register, ring_bit}
 use Rattle.cs_lower.proofs.RingBits.{ring_register}
 use Rattle.cs_lower.proofs.SeenLemmas.{shows}

@@ -1,6 +1,6 @@
 -- Vertices without outputs: the data outputs come first, and then the write ports, memory by memory.
 use Rattle.std.specs.Prelude.{if◌then◌else◌}
-use Rattle.std.proofs.Common.{◌≡◌, ℕ, ◌+◌, Bool, true, false, List, [], ◌∷◌, ◌++◌, length, map, Option, Some, None, codes, flat_map, refl, ap, ap₂, ◌∙◌}
+use Rattle.std.proofs.Common.{◌≡◌, ℕ, ◌+◌, Bool, true, false, List, [], ◌∷◌, ◌++◌, length, map, Option, Some, None, codes, flat_map, refl, ap, ap₂, ◌∙◌, get_or}
 use Rattle.std.specs.List.{enumerate_from}
 use Rattle.std.proofs.lemmas.Grind.{flat_map-append}
 use Rattle.std.proofs.lemmas.List.{append-nil}
@@ -18,7 +18,7 @@ use Rattle.cs_net.specs.Drivers.{StateElement, data_inputs, port_part, read_data
 use Rattle.cs_net.specs.Netlist.{Net}
 use Rattle.cs_lower.specs.Cells.{Placed, cell_parts, class_parts, data_parts, held_parts, memory_parts, placed_cells, read_parts, read_wires, write_parts}
 use Rattle.cs_lower.specs.Lowered.{buffer, constants, is_used, pieces_of, wiring_of}
-use Rattle.cs_lower.specs.Registers.{Chain, always, mux, never, register_chain, still, with_enable, with_piece, with_reset}
+use Rattle.cs_lower.specs.Registers.{Chain, always, held_tap, mux, never, register_chain, still, with_enable, with_piece, with_reset}
 use Rattle.cs_lower.specs.declared.taps.Tap.{Tap}
 use Rattle.cs_lower.specs.declared.taps.Tap.TheVariants.{Constant as of_bit, Signal as of_signal, Vertex as of_vertex}
 use Rattle.cs_lower.specs.declared.taps.Piece.{Piece}
@@ -81,13 +81,13 @@ module _ {B : Type 0} (made : Piece → List B) (sinks : IsOfSinks made) where
 
   -- ---- registers
 
-  none_enable : (net : Net) (q : Signal) (enable : Option Bool) (e : Signal) (c : Chain) → IsNone c.pieces
-      → IsNone (with_enable net q enable e c).pieces
-  none_enable net q None e c none = none
-  none_enable net q (Some high) e c none = by (always high (still net e))
+  none_enable : (net : Net) (held : Tap) (enable : Option Bool) (e : Signal) (c : Chain) → IsNone c.pieces
+      → IsNone (with_enable net held enable e c).pieces
+  none_enable net held None e c none = none
+  none_enable net held (Some high) e c none = by (always high (still net e))
     where
       next : Piece
-      next = mux high (of_signal q) c.last e
+      next = mux high held c.last e
 
       by : (out : Bool) → IsNone (if out then c else with_piece c next).pieces
       by true = none
@@ -105,7 +105,7 @@ module _ {B : Type 0} (made : Piece → List B) (sinks : IsOfSinks made) where
       by true = none
       by false = none_append c.pieces (next ∷ []) none (none_of_one next (sinks.gate Mux next.pins []))
 
-  none_chain : (net : Net) (n : ℕ) (q : Signal) (r : StateElement) (d : Tap)
+  none_chain : (net : Net) (n : ℕ) (q : Signal × Bool) (r : StateElement) (d : Tap)
       → IsNone (register_chain net n q r d).pieces
   none_chain net n q r d = by r.kind.enable_over_reset
     where
@@ -117,12 +117,12 @@ module _ {B : Type 0} (made : Piece → List B) (sinks : IsOfSinks made) where
       }
 
       by : (over : Bool) → IsNone (if over
-          then with_enable net q r.kind.enable r.enable (with_reset net r.kind.reset r.reset at_d)
-          else with_reset net r.kind.reset r.reset (with_enable net q r.kind.enable r.enable at_d)).pieces
-      by true = none_enable net q r.kind.enable r.enable (with_reset net r.kind.reset r.reset at_d)
+          then with_enable net (held_tap net n q r) r.kind.enable r.enable (with_reset net r.kind.reset r.reset at_d)
+          else with_reset net r.kind.reset r.reset (with_enable net (held_tap net n q r) r.kind.enable r.enable at_d)).pieces
+      by true = none_enable net (held_tap net n q r) r.kind.enable r.enable (with_reset net r.kind.reset r.reset at_d)
           (none_reset net r.kind.reset r.reset at_d refl)
-      by false = none_reset net r.kind.reset r.reset (with_enable net q r.kind.enable r.enable at_d)
-          (none_enable net q r.kind.enable r.enable at_d refl)
+      by false = none_reset net r.kind.reset r.reset (with_enable net (held_tap net n q r) r.kind.enable r.enable at_d)
+          (none_enable net (held_tap net n q r) r.kind.enable r.enable at_d refl)
 
   -- ---- memories
 
@@ -135,7 +135,7 @@ module _ {B : Type 0} (made : Piece → List B) (sinks : IsOfSinks made) where
           else read_wires v (read_data cell shape read.0)).pieces
       by true =
           made_in_turn (held_parts net cell shape read v) (λ e. []) (v + 1) (read_data cell shape read.0)
-          (λ k e. none_chain net k e.1 (read_element cell shape read.1 read.0 e.0) (of_vertex v e.0))
+          (λ k e. none_chain net k (e.1, get_or read.1.start e.0 false) (read_element cell shape read.1 read.0 e.0) (of_vertex v e.0))
           ∙ none_of_all (read_data cell shape read.0)
       by false = refl
 
@@ -163,7 +163,7 @@ module _ {B : Type 0} (made : Piece → List B) (sinks : IsOfSinks made) where
   made_of_class : (net : Net) (n : ℕ) (class : Class) (c : Placed)
       → flat_map made (class_parts net n class c).pieces ≡ flat_map made (class_write_pieces class c)
   made_of_class net n (GateClass kind) c = ap (λ a. a ++ []) (sinks.gate kind _ c.cell.name)
-  made_of_class net n (Register kind) c = none_chain net n (signal_of c.cell (codes "Q")) (register_of c.cell kind)
+  made_of_class net n (Register kind) c = none_chain net n (signal_of c.cell (codes "Q"), false) (register_of c.cell kind)
       (of_signal (signal_of c.cell (codes "D")))
   made_of_class net n Memory c = made_of_memory net n c.memory c.cell c.shape
   made_of_class net n Scope c = refl

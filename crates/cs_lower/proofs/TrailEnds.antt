@@ -12,18 +12,20 @@ use Rattle.cs_modules.specs.Signals.{is_bit, number_in}
 use Rattle.cs_net.specs.Invariant.{IsWellFormed}
 use Rattle.cs_net.specs.Netlist.{Net}
 use Rattle.cs_net.proofs.Members.{of_all, within_has}
-use Rattle.cs_lower.specs.Followed.{End, Trail, at_bit, at_vertex, behind_bit, behind_wire, by_ring, followed, from_signal, from_tap}
+use Rattle.cs_lower.specs.Followed.{Trail, behind_bit, behind_wire, by_ring, followed, from_signal, from_tap}
+use Rattle.cs_lower.specs.declared.taps.End.{End}
+use Rattle.cs_lower.specs.declared.taps.End.TheVariants.{Constant as at_bit, Vertex as at_vertex}
 use Rattle.cs_lower.specs.Lowered.{buffer, constants, draft_of, pieces_of, trail_of, vertex_of, wiring_of}
 use Rattle.cs_lower.specs.Rings.{bit_behind, in_order, in_place, is_ring, met, rings}
 use Rattle.cs_lower.specs.declared.taps.Tap.{Tap}
-use Rattle.cs_lower.specs.declared.taps.Tap.TheVariants.{Constant as of_bit, Register as of_register, Signal as of_signal, Vertex as of_vertex}
+use Rattle.cs_lower.specs.declared.taps.Tap.TheVariants.{Constant as of_bit, Held as of_held, Register as of_register, Signal as of_signal, Vertex as of_vertex}
 use Rattle.cs_lower.specs.declared.taps.Wire.{Wire}
 use Rattle.cs_lower.specs.declared.taps.Wire.TheVariants.{Register as from_register, Vertex as from_vertex, Undriven as undriven}
 use Rattle.cs_lower.specs.declared.taps.Piece.{Piece}
 use Rattle.cs_lower.specs.Wires.{parts_of, wire_in}
 use Rattle.cs_lower.proofs.FittingNets.{parts_fit}
 use Rattle.cs_lower.proofs.FittingParts.{Gives, IsBefore, IsThere}
-use Rattle.cs_lower.proofs.Places.{get_left, get_right}
+use Rattle.cs_graph.proofs.Lists.{get_left, get_right}
 
 -- ---- ring buffers
 
@@ -160,12 +162,14 @@ TapIsThere net (of_signal s) = Unit {0}
 TapIsThere net (of_vertex v o) = Gives net v o
 TapIsThere net (of_bit b) = Unit {0}
 TapIsThere net (of_register b) = Unit {0}
+TapIsThere net (of_held v start) = Gives net v 0
 
 pub tap_there : (net : Net) (n : ℕ) (t : Tap) → IsBefore net n t → TapIsThere net t
 tap_there net n (of_signal s) before = tt
 tap_there net n (of_vertex v o) before = before.1
 tap_there net n (of_bit b) before = tt
 tap_there net n (of_register b) before = tt
+tap_there net n (of_held v start) before = before
 
 -- what drives a bit is there
 there_in : (net : Net) (wires : List (Signal × Wire)) → AllByRecursion (λ w. IsThere net w.1) wires → (b : ℕ)
@@ -213,6 +217,7 @@ module _ (net : Net) (w : IsWellFormed net) where
   step_there back each (of_vertex v o) there = draft_gives net v o there
   step_there back each (of_bit b) there = tt
   step_there back each (of_register b) there = behind_there back each b
+  step_there back each (of_held v start) there = draft_gives net v 0 there
 
   followed_there : (fuel : ℕ) (t : Tap) → TapIsThere net t → EndIsThere net (followed (wiring_of net) fuel t).end
   unfolding followed

@@ -4,7 +4,8 @@ use Rattle.std.proofs.Common.{◌≡◌, ℕ, ◌+◌, Some, None, refl}
 use Rattle.std.specs.List.{position_from}
 use Rattle.cs_base.specs.declared.signal.Signal.TheVariants.{Bit}
 use Rattle.cs_net.specs.Netlist.{Net}
-use Rattle.cs_lower.specs.Followed.{at_vertex, behind_bit, ends, from_tap}
+use Rattle.cs_lower.specs.Followed.{behind_bit, ends, from_tap}
+use Rattle.cs_lower.specs.declared.taps.End.TheVariants.{Vertex as at_vertex}
 use Rattle.cs_lower.specs.Lowered.{trail_of, wiring_of}
 use Rattle.cs_lower.specs.declared.taps.Tap.{Tap}
 use Rattle.cs_lower.specs.declared.taps.Tap.TheVariants.{Register as of_register, Signal as of_signal}

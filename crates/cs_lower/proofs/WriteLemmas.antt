@@ -50,7 +50,7 @@ none_muxes m (p ∷ pieces) muxes =
     ap (λ kind. cond (writes_to m kind) (p ∷ write_ports m pieces) (write_ports m pieces)) muxes.0
     ∙ none_muxes m pieces muxes.1
 
-none_register : (m : ℕ) (net : Net) (n : ℕ) (q : Signal) (r : StateElement) (d : Tap)
+none_register : (m : ℕ) (net : Net) (n : ℕ) (q : Signal × Bool) (r : StateElement) (d : Tap)
     → write_ports m (register_parts net n q r d).pieces ≡ []
 none_register m net n q r d = none_muxes m (register_chain net n q r d).pieces (chain_muxes net n q r d).muxes
 
@@ -62,7 +62,7 @@ none_data m net cell shape read v = by read.1.clocked
         then in_turn (held_parts net cell shape read v) (v + 1) (read_data cell shape read.0)
         else read_wires v (read_data cell shape read.0)).pieces ≡ []
     by true = none_in_turn m (held_parts net cell shape read v) (v + 1) (read_data cell shape read.0)
-        (λ k e. none_register m net k e.1 (read_element cell shape read.1 read.0 e.0) (of_vertex v e.0))
+        (λ k e. none_register m net k (e.1, get_or read.1.start e.0 false) (read_element cell shape read.1 read.0 e.0) (of_vertex v e.0))
     by false = refl
 
 none_reads : (m : ℕ) (net : Net) (memory : ℕ) (cell : Cell) (shape : MemShape) (n : ℕ) (reads : List (ℕ × ReadShape))
@@ -118,7 +118,7 @@ other_class : (m : ℕ) (net : Net) (n : ℕ) (class : Class) (c : Placed) → I
     → write_ports m (class_parts net n class c).pieces ≡ []
 other_class m net n (GateClass kind) c apart = refl
 other_class m net n (Register kind) c apart =
-    none_register m net n (signal_of c.cell (codes "Q")) (register_of c.cell kind)
+    none_register m net n (signal_of c.cell (codes "Q"), false) (register_of c.cell kind)
     (of_signal (signal_of c.cell (codes "D")))
 other_class m net n Memory c apart = other_memory m net n c.memory c.cell c.shape apart
 other_class m net n Scope c apart = refl

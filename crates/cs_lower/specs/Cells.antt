@@ -47,7 +47,7 @@ gate_parts n cell kind =
 -- a register drives Q
 abbrev pub register_cell_parts : Net → ℕ → Cell → FfKind → Parts
 register_cell_parts net n cell kind =
-    register_parts net n (signal_of cell (codes "Q")) (register_of cell kind) (of_signal (signal_of cell (codes "D")))
+    register_parts net n (signal_of cell (codes "Q"), false) (register_of cell kind) (of_signal (signal_of cell (codes "D")))
 
 -- ---- memories
 
@@ -60,6 +60,7 @@ abbrev pub read_pins : Cell → ℕ × ReadShape → Datum → RegisterPins
 read_pins cell read e = record {
   kind = read_register (get_or read.1.reset_value e.0 false) read.1.enable_over_reset;
   q = e.1;
+  start = get_or read.1.start e.0 false;
   enable = get_or (bits_of cell (codes "RD_EN")) read.0 Zero;
   reset = get_or (bits_of cell (codes "RD_SRST")) read.0 Zero;
 }
@@ -71,7 +72,7 @@ read_wires v bits = record { pieces = []; wires = map (λ e. (e.1, from_vertex v
 -- the register of a data bit of a clocked read, whose Read has the number v
 abbrev pub held_parts : Net → Cell → MemShape → ℕ × ReadShape → ℕ → ℕ → Datum → Parts
 held_parts net cell shape read v n e =
-    register_parts net n e.1 (read_element cell shape read.1 read.0 e.0) (of_vertex v e.0)
+    register_parts net n (e.1, get_or read.1.start e.0 false) (read_element cell shape read.1 read.0 e.0) (of_vertex v e.0)
 
 -- what a read port gives
 abbrev pub data_parts : Net → Cell → MemShape → ℕ × ReadShape → ℕ → Parts

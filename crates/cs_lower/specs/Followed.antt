@@ -3,16 +3,13 @@ use Rattle.std.specs.Prelude.{ℕ, zero, suc, ◌+◌, ◌==◌, List, [], ◌�
 use Rattle.std.specs.List.{position_from}
 use Rattle.cs_base.specs.declared.signal.Signal.{Signal}
 use Rattle.cs_base.specs.declared.signal.Signal.TheVariants.{Zero, One, Unknown, HighZ, Bit}
+use Rattle.cs_lower.specs.declared.taps.End.{End}
+use Rattle.cs_lower.specs.declared.taps.End.TheVariants.{Constant as at_bit, Vertex as at_vertex}
 use Rattle.cs_lower.specs.declared.taps.Tap.{Tap}
-use Rattle.cs_lower.specs.declared.taps.Tap.TheVariants.{Constant as of_bit, Register as of_register, Signal as of_signal, Vertex as of_vertex}
+use Rattle.cs_lower.specs.declared.taps.Tap.TheVariants.{Constant as of_bit, Held as of_held, Register as of_register, Signal as of_signal, Vertex as of_vertex}
 use Rattle.cs_lower.specs.declared.taps.Wire.{Wire}
 use Rattle.cs_lower.specs.declared.taps.Wire.TheVariants.{Register as from_register, Vertex as from_vertex, Undriven as undriven}
 use Rattle.cs_lower.specs.Wires.{wire_in}
-
--- where a pin leads: an output of a vertex, or a bit that stands for good
-pub data End : Type 0 where
-  at_vertex : ℕ → ℕ → End
-  at_bit : Bool → End
 
 -- the starts of the registers that are passed, nearest the end first, and the end
 pub record Trail : Type 0 where
@@ -59,6 +56,7 @@ from_tap w back (of_signal s) = from_signal w back s
 from_tap w back (of_vertex v o) = ends (at_vertex v o)
 from_tap w back (of_bit b) = ends (at_bit b)
 from_tap w back (of_register b) = behind_bit w back b
+from_tap w back (of_held v start) = past start (ends (at_vertex v 0))
 
 -- what a pin reads, where it passes fewer than so many registers
 unfoldable pub followed : Wiring → ℕ → Tap → Trail

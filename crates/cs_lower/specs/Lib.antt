@@ -9,3 +9,8 @@ pub mod Meaning
 pub mod Matching
 pub mod Writes
 pub mod Alike
+pub mod Starts
+pub mod Reaches
+pub mod Walks
+pub mod LowerFaults
+pub mod Sizes

@@ -1,5 +1,5 @@
 -- `Lower(N)`: the graph of a netlist.
-use Rattle.std.specs.Prelude.{ℕ, ◌+◌, ◌-◌, ◌*◌, ◌^◌, List, [], ◌∷◌, ◌++◌, Bool, true, false, ◌&&◌, not, if◌then◌else◌, length, map, replicate, flat_map, Some}
+use Rattle.std.specs.Prelude.{ℕ, ◌+◌, ◌-◌, ◌*◌, ◌^◌, List, [], ◌∷◌, ◌++◌, Bool, true, false, ◌&&◌, not, if◌then◌else◌, length, map, replicate, flat_map, Option, Some, None}
 use Rattle.std.specs.List.{list_any, zip}
 use Rattle.cs_cells.specs.declared.gate.Kind.TheVariants.{Buf}
 use Rattle.cs_cells.specs.declared.memory.MemShape.{MemShape}
@@ -15,7 +15,9 @@ use Rattle.cs_modules.specs.Memories.{shapes_in}
 use Rattle.cs_net.specs.declared.state.MemoryWords.{MemoryWords}
 use Rattle.cs_net.specs.Drivers.{own_start}
 use Rattle.cs_net.specs.Netlist.{Net, bit_at}
-use Rattle.cs_lower.specs.Followed.{End, Trail, Wiring, at_bit, at_vertex, followed}
+use Rattle.cs_lower.specs.Followed.{Trail, Wiring, followed}
+use Rattle.cs_lower.specs.declared.taps.End.{End}
+use Rattle.cs_lower.specs.declared.taps.End.TheVariants.{Constant as at_bit, Vertex as at_vertex}
 use Rattle.cs_lower.specs.Rings.{rings}
 use Rattle.cs_lower.specs.declared.taps.Tap.{Tap}
 use Rattle.cs_lower.specs.declared.taps.Tap.TheVariants.{Register as of_register}
@@ -106,6 +108,11 @@ memory_of m = record {
   width = m.1.width;
   start = filled (2 ^ m.1.abits) m.1.width m.0.words;
 }
+
+-- the memory of these words, if there are some, and a shape
+abbrev pub next_memory : MemShape → Option MemoryWords → List Memory
+next_memory shape None = []
+next_memory shape (Some words) = memory_of (words, shape) ∷ []
 
 -- ---- the graph
 

@@ -1,5 +1,5 @@
 -- What drives a bit of the netlist, and what drives it among the vertices.
-use Rattle.std.specs.Prelude.{◌≡◌, ℕ, ◌+◌, List, [], get_or, length, map, take, drop, option_map, slice_get, Some}
+use Rattle.std.specs.Prelude.{◌≡◌, ℕ, ◌+◌, List, [], get_or, length, map, take, drop, option_map, slice_get, Some, Bool}
 use Rattle.cs_base.specs.declared.signal.Signal.{Signal}
 use Rattle.cs_cells.specs.declared.memory.MemShape.{MemShape}
 use Rattle.cs_graph.specs.declared.vertex.VertexKind.{VertexKind}
@@ -60,7 +60,7 @@ IsSource net (from_signal s) d = d ≡ of_signal s
 IsSource net (from_word w) d = (v : ℕ) × (d ≡ of_vertex v w.place) × ReadsWord net w.memory w.address v
 
 -- what the register that drives Q takes is what comes out of its multiplexers, which stand among the vertices
-pub record TakesFrom (net : Net) (q : Signal) (r : StateElement) (taken : Tap) : Type 0 where
+pub record TakesFrom (net : Net) (q : Signal × Bool) (r : StateElement) (taken : Tap) : Type 0 where
   pub first : ℕ
   pub d : Tap
   pub source : IsSource net r.source d
@@ -75,5 +75,5 @@ Matches net q driven_by_none undriven = Unit {0}
 Matches net q (input i) (from_vertex v o) = (v ≡ 1 + i) × (o ≡ 0) × IsVertex net v Input []
 Matches net q (gate kind pins) (from_vertex v o) = IsVertex net v (Gate kind) (map of_signal pins) × (o ≡ 0)
 Matches net q (word_bit w) (from_vertex v o) = IsWordBit net w v o
-Matches net q (register r) (from_register d) = TakesFrom net q r d
+Matches net q (register r) (from_register d) = (start : Bool) × TakesFrom net (q, start) r d
 Matches net q driver wire = ⊥

@@ -1,7 +1,9 @@
 -- What a pin shows clock by clock, by its trail.
 use Rattle.std.specs.Prelude.{ℕ, ℤ, pos, negsuc, ◌-ℤ◌, Bool, false, length, get_or}
 use Rattle.cs_graph.specs.Run.{Outs}
-use Rattle.cs_lower.specs.Followed.{End, Trail, at_bit, at_vertex}
+use Rattle.cs_lower.specs.Followed.{Trail}
+use Rattle.cs_lower.specs.declared.taps.End.{End}
+use Rattle.cs_lower.specs.declared.taps.End.TheVariants.{Constant as at_bit, Vertex as at_vertex}
 
 -- what an end is at clock n
 abbrev pub at_end : (ℕ → Outs) → ℕ → End → Bool

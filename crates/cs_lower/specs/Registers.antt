@@ -9,7 +9,7 @@ use Rattle.cs_graph.specs.declared.vertex.VertexKind.TheVariants.{Gate}
 use Rattle.cs_net.specs.Drivers.{Driver, Source, StateElement, driver_of, gate, input, register, undriven, word_bit}
 use Rattle.cs_net.specs.Netlist.{Net}
 use Rattle.cs_lower.specs.declared.taps.Tap.{Tap}
-use Rattle.cs_lower.specs.declared.taps.Tap.TheVariants.{Constant as of_bit, Signal as of_signal, Vertex as of_vertex}
+use Rattle.cs_lower.specs.declared.taps.Tap.TheVariants.{Constant as of_bit, Held as of_held, Signal as of_signal, Vertex as of_vertex}
 use Rattle.cs_lower.specs.declared.taps.Wire.TheVariants.{Register as from_register}
 use Rattle.cs_lower.specs.declared.taps.Piece.{Piece}
 use Rattle.cs_lower.specs.declared.registers.RegisterPins.{RegisterPins}
@@ -68,9 +68,9 @@ mux high off on select =
     piece (Gate Mux) (if high then off ∷ on ∷ of_signal select ∷ [] else on ∷ off ∷ of_signal select ∷ [])
 
 -- a register that keeps what it holds while its enable is inactive
-abbrev pub with_enable : Net → Signal → Option Bool → Signal → Chain → Chain
-with_enable net q None e c = c
-with_enable net q (Some high) e c = if always high (still net e) then c else with_piece c (mux high (of_signal q) c.last e)
+abbrev pub with_enable : Net → Tap → Option Bool → Signal → Chain → Chain
+with_enable net held None e c = c
+with_enable net held (Some high) e c = if always high (still net e) then c else with_piece c (mux high held c.last e)
 
 -- a register that takes its reset value while its reset is active
 abbrev pub with_reset : Net → Option ResetKind → Signal → Chain → Chain
@@ -78,18 +78,36 @@ with_reset net None r c = c
 with_reset net (Some reset) r c =
     if never reset.high (still net r) then c else with_piece c (mux reset.high c.last (of_bit reset.value) r)
 
+-- how many multiplexers a reset makes
+abbrev pub reset_count : Net → Option ResetKind → Signal → ℕ
+reset_count net None r = 0
+reset_count net (Some reset) r = if never reset.high (still net r) then 0 else 1
+
+-- where a register's bit Q is a text, a register of its own with that start, behind vertex v
+abbrev pub held_of : ℕ → Bool → Signal → Tap
+held_of v start Zero = of_held v start
+held_of v start One = of_held v start
+held_of v start Unknown = of_held v start
+held_of v start HighZ = of_held v start
+held_of v start (Bit b) = of_signal (Bit b)
+
+-- what a register holds that drives such a signal, with the start that it has where this is a text; its multiplexers
+-- begin at vertex n, and that of its enable is among them
+abbrev pub held_tap : Net → ℕ → Signal × Bool → StateElement → Tap
+held_tap net n q r = held_of (n + reset_count net r.kind.reset r.reset) q.1 q.0
+
 -- the multiplexers before the register of a bit Q, from what it has at D: that which goes first is nearer D
-abbrev pub register_chain : Net → ℕ → Signal → StateElement → Tap → Chain
+abbrev pub register_chain : Net → ℕ → Signal × Bool → StateElement → Tap → Chain
 register_chain net n q r d =
     if r.kind.enable_over_reset
-    then with_enable net q r.kind.enable r.enable (with_reset net r.kind.reset r.reset (no_chain n d))
-    else with_reset net r.kind.reset r.reset (with_enable net q r.kind.enable r.enable (no_chain n d))
+    then with_enable net (held_tap net n q r) r.kind.enable r.enable (with_reset net r.kind.reset r.reset (no_chain n d))
+    else with_reset net r.kind.reset r.reset (with_enable net (held_tap net n q r) r.kind.enable r.enable (no_chain n d))
 
 -- the vertices of a register, which drives Q
-abbrev pub register_parts : Net → ℕ → Signal → StateElement → Tap → Parts
+abbrev pub register_parts : Net → ℕ → Signal × Bool → StateElement → Tap → Parts
 register_parts net n q r d =
     let c = register_chain net n q r d in
-    record { pieces = c.pieces; wires = (q, from_register c.last) ∷ [] }
+    record { pieces = c.pieces; wires = (q.0, from_register c.last) ∷ [] }
 
 -- a register of these pins, whatever it has at D
 abbrev pub element_of : Source → RegisterPins → StateElement

@@ -4,7 +4,7 @@ use Rattle.std.specs.List.{list_all, list_any}
 use Rattle.cs_base.specs.declared.signal.Signal.{Signal}
 use Rattle.cs_modules.specs.Signals.{number_in}
 use Rattle.cs_lower.specs.declared.taps.Tap.{Tap}
-use Rattle.cs_lower.specs.declared.taps.Tap.TheVariants.{Constant as of_bit, Register as of_register, Signal as of_signal, Vertex as of_vertex}
+use Rattle.cs_lower.specs.declared.taps.Tap.TheVariants.{Constant as of_bit, Held as of_held, Register as of_register, Signal as of_signal, Vertex as of_vertex}
 use Rattle.cs_lower.specs.declared.taps.Wire.{Wire}
 use Rattle.cs_lower.specs.declared.taps.Wire.TheVariants.{Register as from_register, Vertex as from_vertex, Undriven as undriven}
 use Rattle.cs_lower.specs.Wires.{wire_in}
@@ -15,6 +15,7 @@ bit_at_tap (of_signal s) = number_in s
 bit_at_tap (of_vertex v o) = None
 bit_at_tap (of_bit b) = None
 bit_at_tap (of_register b) = None
+bit_at_tap (of_held v start) = None
 
 abbrev pub bit_behind : Wire → Option ℕ
 bit_behind undriven = None

@@ -65,6 +65,7 @@ fn push_register_cell(
     let pins = RegisterPins {
         kind,
         q: cell.signal("Q"),
+        start: false,
         enable: cell.signal("E"),
         reset: cell.signal("R"),
     };

@@ -2,12 +2,24 @@
 #![tactic(auto)]
 
 mod cells;
+mod contents;
 mod driven;
+mod error;
 mod laws;
+mod lowering;
 mod memories;
 mod parts;
+mod plan;
+mod reaches;
 mod registers;
+mod rings;
+mod sizes;
+mod starts;
 mod taps;
+mod trails;
+mod wired;
 mod wires;
 
+pub use error::LowerError;
 pub use laws::keeps_answers;
+pub use lowering::{Lowered, lower};

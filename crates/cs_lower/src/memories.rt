@@ -88,6 +88,7 @@ fn read_pins(cell: &Cell, port: usize, read: &ReadShape, place: usize, q: Signal
     RegisterPins {
         kind: read_kind(read, place),
         q,
+        start: read.start.as_slice().get(place).copied().unwrap_or(false),
         enable: port_signal(cell, "RD_EN", port),
         reset: port_signal(cell, "RD_SRST", port),
     }

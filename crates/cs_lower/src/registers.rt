@@ -1,6 +1,6 @@
 // The multiplexers that stand before a register with an enable and a reset.
-ghost use Rattle.std.specs.Prelude.{◌≡◌, ◌∷◌, [], length, IfOk, OnOk};
-ghost use Rattle.cs_lower.specs.Registers.{IsPushed, always, element_of, mux, never, no_chain, register_chain, register_parts, with_enable, with_reset};
+ghost use Rattle.std.specs.Prelude.{◌≡◌, ◌≤◌, ◌∷◌, [], length, IfOk, OnOk};
+ghost use Rattle.cs_lower.specs.Registers.{IsPushed, always, element_of, held_of, held_tap, mux, never, no_chain, register_chain, register_parts, reset_count, with_enable, with_reset};
 ghost use Rattle.cs_lower.specs.declared.taps.Tap.TheVariants.{Vertex as of_vertex};
 ghost use Rattle.cs_lower.specs.Taps.{both, with_pieces};
 ghost use Rattle.cs_net.specs.Drivers.{Source};
@@ -17,6 +17,8 @@ use std::alloc::{AllocError, Global};
 pub(crate) struct RegisterPins {
     pub kind: FfKind,
     pub q: Signal,
+    /// What it starts with where Q is a text; a bit has its own start.
+    pub start: bool,
     pub enable: Signal,
     pub reset: Signal,
 }
@@ -82,17 +84,18 @@ fn push_enable(
     parts: &mut Parts,
     net: &DrivenBits,
     pins: &RegisterPins,
+    held: Tap,
     last: Tap,
 ) -> Result<Tap, AllocError>
     ensures { IfOk result (λ end. IsPushed parts.old
-        (with_enable net.now pins.now.q pins.now.kind.enable pins.now.enable (no_chain (length parts.old.pieces) last)) parts.new end) }
+        (with_enable net.now held pins.now.kind.enable pins.now.enable (no_chain (length parts.old.pieces) last)) parts.new end) }
 {
     match pins.kind.enable {
         None => Ok(last),
         Some(high) => if is_always(high, net.still(pins.enable)) {
             Ok(last)
         } else {
-            push_mux(alloc, parts, high, Tap::Signal(pins.q), last, pins.enable)
+            push_mux(alloc, parts, high, held, last, pins.enable)
         },
     }
 }
@@ -125,6 +128,44 @@ fn push_reset(
     }
 }
 
+// How many multiplexers a reset makes.
+fn reset_count(net: &DrivenBits, pins: &RegisterPins) -> usize
+    ensures is { result ≡ reset_count net.now pins.now.kind.reset pins.now.reset }
+    ensures few { result ≤ 1 }
+{
+    match pins.kind.reset {
+        None => 0,
+        Some(reset) => if is_never(reset.high, net.still(pins.reset)) {
+            0
+        } else {
+            1
+        },
+    }
+}
+
+// What a register holds whose last multiplexer is this vertex.
+fn held_of(vertex: usize, start: bool, q: Signal) -> Tap
+    ensures { result ≡ held_of vertex start q }
+{
+    match q {
+        Signal::Bit(_) => Tap::Signal(q),
+        Signal::Zero => Tap::Held { vertex, start },
+        Signal::One => Tap::Held { vertex, start },
+        Signal::Unknown => Tap::Held { vertex, start },
+        Signal::HighZ => Tap::Held { vertex, start },
+    }
+}
+
+// What a register holds whose multiplexers begin at vertex `first`.
+fn held_tap(net: &DrivenBits, first: usize, pins: &RegisterPins) -> Result<Tap, AllocError>
+    ensures { IfOk result (λ held. (source : Source) → held ≡ held_tap net.now first (pins.now.q, pins.now.start) (element_of source pins.now)) }
+{
+    let Some(vertex) = first.checked_add(reset_count(net, pins)) else {
+        return Err(AllocError);
+    };
+    Ok(held_of(vertex, pins.start, pins.q))
+}
+
 // Pushes the multiplexers before a register, from what it has at D, and tells what comes out.
 fn push_chain(
     alloc: Global,
@@ -135,13 +176,14 @@ fn push_chain(
 ) -> Result<Tap, AllocError>
     ensures { IfOk result (λ last. (source : Source)
         → IsPushed parts.old
-        (register_chain net.now (length parts.old.pieces) pins.now.q (element_of source pins.now) d) parts.new last) }
+        (register_chain net.now (length parts.old.pieces) (pins.now.q, pins.now.start) (element_of source pins.now) d) parts.new last) }
 {
+    let held = held_tap(net, parts.pieces.len(), pins)?;
     if pins.kind.enable_over_reset {
         let last = push_reset(alloc, parts, net, pins, d)?;
-        push_enable(alloc, parts, net, pins, last)
+        push_enable(alloc, parts, net, pins, held, last)
     } else {
-        let last = push_enable(alloc, parts, net, pins, d)?;
+        let last = push_enable(alloc, parts, net, pins, held, d)?;
         push_reset(alloc, parts, net, pins, last)
     }
 }
@@ -156,7 +198,7 @@ pub(crate) fn push_register(
 ) -> Result<(), AllocError>
     ensures { OnOk result ((source : Source)
         → parts.new ≡ both parts.old
-        (register_parts net.now (length parts.old.pieces) pins.now.q (element_of source pins.now) d)) }
+        (register_parts net.now (length parts.old.pieces) (pins.now.q, pins.now.start) (element_of source pins.now) d)) }
 {
     let last = push_chain(alloc, parts, net, pins, d)?;
     parts.drive(pins.q, Wire::Register(last))

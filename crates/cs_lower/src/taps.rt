@@ -17,6 +17,8 @@ pub enum Tap {
     Constant(bool),
     /// The register that drives this bit.
     Register(BitId),
+    /// A register with this start that takes output 0 of the vertex of a number.
+    Held { vertex: usize, start: bool },
 }
 
 /// A vertex; its origin is the name of the gate cell that it is, and empty for every other vertex.
@@ -46,6 +48,13 @@ pub enum Wire {
     Undriven,
     Vertex { vertex: usize, output: usize },
     Register(Tap),
+}
+
+/// Where a pin leads: an output of a vertex, or a bit that stands for good.
+#[derive(Clone, Copy, Debug, PartialEq, Eq)]
+pub enum End {
+    Vertex { vertex: usize, output: usize },
+    Constant(bool),
 }
 
 /// The vertices of a part of a netlist, and the signals that it drives.

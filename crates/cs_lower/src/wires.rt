@@ -1,11 +1,13 @@
 // Wires in which that of a bit is found at once.
-ghost use Rattle.std.specs.Prelude.{◌≡◌, ℕ, IfOk, nat_eq};
+ghost use Rattle.std.specs.Prelude.{◌≡◌, ℕ, IfOk, filter_map, nat_eq};
 ghost use Rattle.std.specs.HashMap.{get};
+ghost use Rattle.cs_modules.specs.Signals.{number_in};
+ghost use Rattle.cs_lower.specs.Rings.{bit_at_tap, bit_behind};
 ghost use Rattle.cs_lower.specs.Wires.{first_wire, wire_in};
 
-use crate::taps::Wire;
+use crate::taps::{Tap, Wire};
 use cs_base::{BitId, Sequence, Signal};
-use cs_modules::note;
+use cs_modules::{note, number_in};
 use std::alloc::{AllocError, Global};
 use std::collections::HashMap;
 use std::marker::Model;
@@ -19,6 +21,40 @@ fn first_wires(alloc: Global, wires: &[(Signal, Wire)]) -> Result<HashMap<u32, W
         note(&mut firsts, *signal, *wire)?;
     }
     Ok(firsts)
+}
+
+/// The bit that a signal is.
+pub(crate) fn bit_of(signal: Signal) -> Option<BitId>
+    ensures { result ≡ number_in signal }
+{
+    match signal {
+        Signal::Bit(bit) => Some(bit),
+        Signal::Zero | Signal::One | Signal::Unknown | Signal::HighZ => None,
+    }
+}
+
+// The bit of a signal that a register takes.
+fn bit_at_tap(tap: Tap) -> Option<BitId>
+    ensures { result ≡ bit_at_tap tap }
+{
+    match tap {
+        Tap::Signal(signal) => bit_of(signal),
+        Tap::Vertex { .. } => None,
+        Tap::Constant(_) => None,
+        Tap::Register(_) => None,
+        Tap::Held { .. } => None,
+    }
+}
+
+// The bit of a signal that the register takes which drives another, if a register does.
+fn bit_behind(wire: Wire) -> Option<BitId>
+    ensures { result ≡ bit_behind wire }
+{
+    match wire {
+        Wire::Undriven => None,
+        Wire::Vertex { .. } => None,
+        Wire::Register(tap) => bit_at_tap(tap),
+    }
 }
 
 /// Signals that are driven, each by its wire; contracts see the list of them.
@@ -66,5 +102,23 @@ impl Wires {
             Some(wire) => *wire,
             None => Wire::Undriven,
         }
+    }
+
+    /// The bit behind the register that drives a bit, if a register does and takes a bit.
+    pub fn behind(&self, bit: BitId) -> Option<BitId>
+        ensures { result ≡ bit_behind (wire_in self.now bit) }
+    {
+        bit_behind(self.wire(bit))
+    }
+
+    /// The numbers of the bits that are driven, in order. It errs only where memory runs out.
+    pub fn numbers(&self, alloc: Global) -> Result<Vec<u32>, AllocError>
+        ensures { IfOk result (λ numbers. numbers.items ≡ filter_map (λ w. number_in w.0) self.now) }
+    {
+        self.wires
+            .as_slice()
+            .iter()
+            .filter_map(|wire| number_in(wire.0))
+            .collect(alloc)
     }
 }

@@ -14,7 +14,7 @@ use Rattle.cs_net.specs.Contexts.{no_images}
 use Rattle.cs_net.specs.Isolates.{Isolates}
 use Rattle.cs_net.specs.Trace.{Row, Valuation, signal_value, value_by, source_value, next_bit, next_state, Settles, IsTrace, output_row, output_rows, Answers}
 use Rattle.cs_base.proofs.PartLemmas.{get_or-part, length-part, part_in}
-use Rattle.cs_net.proofs.Answering.{answer_exists, same_answer, start_without_images}
+use Rattle.cs_net.proofs.Answering.{answer_exists, get_or-output_rows, length-output_rows, same_answer, start_without_images}
 use Rattle.cs_multiply.specs.Multiplies.{rewired, IsPlainRegister, IsSeries, IsQuiet, IsCarried, no_driver, from_input, from_gate, from_register, Multiplies, start_value}
 
 -- ---- plain registers
@@ -164,15 +164,6 @@ module _ (net written : Net) (c : ℕ) (wire : ℕ → Signal) (m : Multiplies n
   context_trace = record { begins = refl; settles = context_settles; goes_on = λ i among. refl }
 
 -- ---- what is answered
-
-length-output_rows : (net : Net) (count : ℕ) (bits : ℕ → Valuation) → length (output_rows net count bits) ≡ count
-length-output_rows net zero bits = refl
-length-output_rows net (suc count) bits = ap suc (length-output_rows net count (λ n. bits (suc n)))
-
-get_or-output_rows : (net : Net) (count : ℕ) (bits : ℕ → Valuation) (i : ℕ) (none : Row) → i < count → get_or (output_rows net count bits) i none ≡ output_row net (bits i)
-get_or-output_rows net zero bits i none below = absurd (omega arith)
-get_or-output_rows net (suc count) bits zero none below = refl
-get_or-output_rows net (suc count) bits (suc i) none below = get_or-output_rows net count (λ n. bits (suc n)) i none (omega arith)
 
 module _ (net written : Net) (c : ℕ) (wire : ℕ → Signal) (m : Multiplies net written c wire) where
   seen_outputs : (v : Valuation) → output_row net (seen_by wire v) ≡ output_row written v

@@ -1,5 +1,5 @@
 -- What a netlist answers, a row at a time.
-use Rattle.std.proofs.Common.{◌≡◌, ℕ, zero, suc, ◌<◌, List, [], ◌∷◌, length, map, None, refl, sym, ap, ap₂, subst, ◌∙◌, arith, false}
+use Rattle.std.proofs.Common.{◌≡◌, ℕ, zero, suc, ◌<◌, List, [], ◌∷◌, length, get_or, map, None, refl, sym, ap, ap₂, subst, ◌∙◌, arith, false}
 use Rattle.cs_net.specs.Netlist.{Net, NetState, state_of}
 use Rattle.cs_net.specs.Drivers.{IsBitOrder, own_start}
 use Rattle.cs_net.specs.Trace.{Row, Valuation, next_state, Settles, IsTrace, output_row, output_rows, Answers, AreSteps}
@@ -9,6 +9,19 @@ use Rattle.cs_net.specs.declared.state.MemoryWords.{MemoryWords}
 use Rattle.cs_net.specs.declared.state.Snapshot.{Snapshot}
 use Rattle.cs_base.proofs.PartLemmas.{part_whole}
 use Rattle.cs_net.proofs.Traces.{settled, settled_settles, traces_agree}
+
+-- ---- rows of outputs
+
+pub length-output_rows : (net : Net) (count : ℕ) (bits : ℕ → Valuation) → length (output_rows net count bits) ≡ count
+length-output_rows net zero bits = refl
+length-output_rows net (suc count) bits = ap suc (length-output_rows net count (λ n. bits (suc n)))
+
+pub get_or-output_rows : (net : Net) (count : ℕ) (bits : ℕ → Valuation) (i : ℕ) (none : Row) → i < count
+    → get_or (output_rows net count bits) i none ≡ output_row net (bits i)
+get_or-output_rows net zero bits i none below = absurd (omega (arith, below))
+get_or-output_rows net (suc count) bits zero none below = refl
+get_or-output_rows net (suc count) bits (suc i) none below =
+    get_or-output_rows net count (λ n. bits (suc n)) i none (omega (arith, below))
 
 -- ---- the first clock and the rest
 

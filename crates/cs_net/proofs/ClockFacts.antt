@@ -123,6 +123,9 @@ all_formed m none = by (find (is_misformed m) (cells_of m)) refl none
         let differ = sym whole ∙ broken in
         absurd (cc)
 
+pub none_misformed : (m : Module) → early_refusal m ≡ None → AllByRecursion (λ d. is_misformed m d ≡ false) (cells_of m)
+none_misformed m none = all_formed m (none_of_clocks m none).form
+
 -- each write port of a memory is clocked
 abbrev HasClockedWrites : CellDecl → Type 0
 HasClockedWrites d = (i : ℕ) → class_at d ≡ class.Memory → i < number_at d (codes "WR_PORTS") → is_clocked d (codes "WR") i ≡ true

@@ -21,5 +21,6 @@ pub use laws::{
     driven_once, isolates_itself, memories_are_wide, memories_in_order, one_clock, one_refusal,
     one_trace, pins_are_wide, rows_of_a_part, starts_in_order, words_by_name,
 };
+pub use limits::above_limit;
 pub use netlist::{Cell, Netlist, PinBits, Port};
 pub use state::{BitValue, MemoryWords, Snapshot};

@@ -14,8 +14,8 @@ const MOST_MEMORY_BITS: u64 = 4_194_304;
 
 const MOST_READ_BITS: u64 = 4_194_304;
 
-// The fault of a count above its limit; `found` is the count, or the greatest number of 64 bits.
-fn above_limit(what: Counted, found: u64, most: u64) -> Option<LimitFault>
+/// The fault of a count above its limit; `found` is the count, or the greatest number of 64 bits.
+pub fn above_limit(what: Counted, found: u64, most: u64) -> Option<LimitFault>
     requires { most < 2 ^ 64 - 1 }
     ensures { (count : ℕ) → found ≡ min count (2 ^ 64 - 1) → result ≡ above_limit what count most }
 {

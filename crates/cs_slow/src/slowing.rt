@@ -10,11 +10,8 @@ ghost use Rattle.cs_slow.specs.declared.error.SlowError.TheVariants.{Limit, NoMe
 
 use crate::error::SlowError;
 use cs_base::{Contexts, Counted, EdgeId, LimitFault, Sequence};
-use cs_graph::{BuildError, Contents, Machine};
+use cs_graph::{BuildError, Contents, MOST_WEIGHT, Machine};
 use std::alloc::{AllocError, Global};
-
-/// The most registers that a machine may have.
-const MOST_WEIGHT: u64 = 65_536;
 
 /// The machine with every register as many times in series as there are contexts, each with the register's start:
 /// every weight that many times as great, and content j what content j / contexts was. Vertices, edges and memories

@@ -3,7 +3,7 @@ use Rattle.std.proofs.Common.{◌+◌, map, drop, ap, ◌∙◌}
 use Rattle.serde_json.specs.View.{view}
 use Rattle.cs_json.specs.Walk.{each_item}
 use Rattle.cs_json.proofs.Loops.{with_front}
-use Rattle.cs_cert.proofs.ItemLemmas.{one_more_item}
+use Rattle.cs_json.proofs.Loops.{one_more_item}
 use Rattle.cs_cert.proofs.lists.each.Goals as goal
 
 pub loop-i-preserved : goal.loop-i-preserved

@@ -4,7 +4,7 @@ use Rattle.serde_json.specs.View.{view}
 use Rattle.cs_json.specs.Walk.{each_item}
 use Rattle.cs_json.proofs.Loops.{with_front}
 use Rattle.cs_images.specs.Shape.{image}
-use Rattle.cs_images.proofs.ItemLemmas.{one_more_item}
+use Rattle.cs_json.proofs.Loops.{one_more_item}
 use Rattle.cs_images.proofs.shape.each_image.Goals as goal
 
 pub loop-i-preserved : goal.loop-i-preserved

@@ -8,6 +8,6 @@ pub returns : goal.returns
 returns c =
     let pins = c.args.pins.now in
     on_ok (λ driven source. register_pushed c.args.parts.now c.push_chain.new.parts c.drive.new.self
-    (register_chain c.args.net.now (length c.args.parts.now.pieces) pins.q (element_of source pins) c.args.d) pins.q
+    (register_chain c.args.net.now (length c.args.parts.now.pieces) (pins.q, pins.start) (element_of source pins) c.args.d) pins.q
     c.in_ok-last.last (c.in_ok-last.ensures source) driven)
     c.drive.result c.drive.ensures

@@ -1,0 +1,11 @@
+-- What is counted and what is left make the whole.
+use Rattle.std.proofs.Common.{◌≡◌, ◌+◌, ◌-◌, ◌^◌, ◌≤◌, drop, map, min}
+use Rattle.cs_graph.specs.Draft.{edge_count}
+use Rattle.cs_lower.specs.Lowered.{vertex_of}
+use Rattle.cs_lower.proofs.sizes.edge_count.Given as goal
+
+abbrev pub invariant-loop-piece : goal.invariant-loop-piece
+invariant-loop-piece l =
+    (min (l.count + edge_count (map (vertex_of l.plan) (drop l.piece-index l.pieces))) (2 ^ 64 - 1)
+    ≡ min (edge_count (map (vertex_of l.plan) l.pieces)) (2 ^ 64 - 1))
+    × (l.count ≤ 2 ^ 64 - 1)

@@ -1,0 +1,11 @@
+mod DefaultLemmas
+pub mod WaitingLemmas
+pub mod SearchLemmas
+pub mod SettleLemmas
+pub mod RoundLemmas
+pub mod WorkLemmas
+pub mod GuideLemmas
+pub mod StepLemmas
+pub mod TraceLemmas
+pub mod RowLemmas
+mod Examples

@@ -1,0 +1,9 @@
+mod Analyses
+mod Learning
+mod Literals
+mod Reasons
+mod Shortening
+mod Soundness
+mod Trails
+mod Weights
+mod Searches
