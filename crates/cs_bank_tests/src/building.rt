@@ -98,9 +98,9 @@ pub fn without_port(rt: &impl Abort, alloc: Global, memory: Memory) -> Machine {
 
 /// A machine of two memories without ports.
 pub fn with_two_memories(rt: &impl Abort, alloc: Global, first: Memory, second: Memory) -> Machine {
-    assert!(rt; is_memory(&second));
-    let mut builder = with_memory(rt, alloc, first);
-    builder.keeps();
+    assert!(rt; is_memory(&first) && is_memory(&second));
+    let mut builder = MachineBuilder::new(alloc).expect(rt, "a builder");
+    let _ = builder.add_memory(first).expect(rt, "a memory");
     let _ = builder.add_memory(second).expect(rt, "a memory");
     builder.finish(alloc).expect(rt, "a machine")
 }

@@ -1,6 +1,7 @@
 // What is decided of small formulas, of pigeons and holes, of chains, and of a formula that wants learning.
 use crate::formulas::{add, add_lits, formula, holds, is_in_range, no, yes};
 use cs_base::{Formula, Lit};
+use cs_cells::Kind;
 use cs_rup::check;
 use cs_sat::{Verdict, decide};
 use std::alloc::{AllocError, Global};
@@ -26,7 +27,7 @@ fn has_model(rt: &impl Abort, alloc: Global, f: &Formula) -> Result<bool, AllocE
 type Rows = &'static [&'static [i32]];
 
 // Formulas with the number of their variables, and whether they have a model.
-const FORMULAS: [(u32, Rows, bool); 14] = [
+const FORMULAS: [(u32, Rows, bool); 15] = [
     (0, &[], true),
     (0, &[&[]], false),
     (3, &[], true),
@@ -40,6 +41,8 @@ const FORMULAS: [(u32, Rows, bool); 14] = [
     (2, &[&[1, 2], &[1, -2], &[-1, 2], &[-1, -2]], false),
     (2, &[&[1, 2], &[1, -2], &[-1, 2]], true),
     (3, &[&[1], &[-1, 2], &[-2, 3], &[-3]], false),
+    // A gate that has to be both 0 and 1 a clock before the first.
+    (3, &[&[1], &[3, 2], &[-3, -2], &[-2], &[2]], false),
     (
         3,
         &[
@@ -163,6 +166,29 @@ fn chains_of_sums(rt: HostRuntime) -> Result<(), Fail> {
     let free = chain(rt.alloc(), false)?;
     assert!(rt; has_model(&rt, rt.alloc(), &free)?);
     let contradicted = chain(rt.alloc(), true)?;
+    assert!(rt; !has_model(&rt, rt.alloc(), &contradicted)?);
+    Ok(())
+}
+
+// Each variable from the third on is the exclusive or of the two before it, so each is that of three places before; or
+// else the first and the fourth differ.
+fn exclusive_ors(alloc: Global, contradicted: bool) -> Result<Formula, AllocError> {
+    let mut f = formula(alloc, 32);
+    for var in 1..31 {
+        Kind::Xor.clauses(alloc, yes(var + 2), &[yes(var), yes(var + 1)], &mut f)?;
+    }
+    if contradicted {
+        add_lits(alloc, &mut f, &[yes(1), yes(4)])?;
+        add_lits(alloc, &mut f, &[no(1), no(4)])?;
+    }
+    Ok(f)
+}
+
+#[test]
+fn chains_of_exclusive_ors(rt: HostRuntime) -> Result<(), Fail> {
+    let free = exclusive_ors(rt.alloc(), false)?;
+    assert!(rt; has_model(&rt, rt.alloc(), &free)?);
+    let contradicted = exclusive_ors(rt.alloc(), true)?;
     assert!(rt; !has_model(&rt, rt.alloc(), &contradicted)?);
     Ok(())
 }
