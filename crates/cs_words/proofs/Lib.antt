@@ -1,1 +1,3 @@
-pub mod FormLemmas
+pub mod MatchLemmas
+pub mod ReadLemmas
+pub mod VerbLemmas

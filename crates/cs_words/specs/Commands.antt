@@ -1,102 +1,129 @@
 -- The command that words say.
-use Rattle.std.specs.Prelude.{ℕ, ◌<◌, ◌≤◌, Bool, not, ◌&&◌, ◌≡◌, ⊤, nat_le, List, [], ◌∷◌, length, map, Option, Some, None, Result, Ok, Err, if◌then◌else◌, option_and_then, String, codes}
+use Rattle.std.specs.Prelude.{ℕ, ◌<◌, ◌≤◌, ◌≡◌, ⊤, Bool, ◌&&◌, nat_le, nat_lt, List, [], ◌∷◌, length, map, Option, Result, Ok, Err, if◌then◌else◌, unwrap_or, String, codes}
 use Rattle.std.specs.String.{string_bytes}
 use Rattle.std.specs.Str.{bytes_eq}
-use Rattle.std.specs.Option.{option_map}
+use Rattle.std.specs.Option.{ok_or, option_map_or}
 use Rattle.std.specs.declared.alloc.Global.{Global}
+use Rattle.clap.specs.Words.{Kinds, Row, all_of, fault_of, first_of, matches_of}
 use Rattle.cs_words.specs.declared.command.Command.{Command}
-use Rattle.cs_words.specs.declared.command.Command.TheVariants.{Slow, Sim, SimContext, Mix, Part, Upgrade}
+use Rattle.cs_words.specs.declared.command.Command.TheVariants.{Slow, Sim, SimContext, Mix, Part, Upgrade, Help, Version}
 use Rattle.cs_words.specs.declared.read.WordError.{WordError}
-use Rattle.cs_words.specs.declared.read.WordError.TheVariants.{NoCommand, BadWords, NoMemory}
-use Rattle.cs_words.specs.Numbers.{contexts_of, context_of}
+use Rattle.cs_words.specs.declared.read.WordError.TheVariants.{NoCommand, BadWords, BadNumber, SameName, NoMemory}
+use Rattle.cs_words.specs.declared.verb.Verb.{Verb}
+use Rattle.cs_words.specs.declared.verb.Verb.TheVariants as verb
+use Rattle.cs_words.specs.Forms.{form_of, verb_of}
+use Rattle.cs_words.specs.Numbers.{contexts_of, number_of}
 
 -- the words as their bytes
 abbrev pub texts : List (String Global) → List (List ℕ)
 texts words = map (λ word. string_bytes word) words
 
--- ---- the words behind a command's name
+-- what follows from a value, unless there is an error
+abbrev pub follow : {T U : Type 0} → Result T WordError → (T → Result U WordError) → Result U WordError
+follow (Ok value) next = next value
+follow (Err error) next = Err error
 
--- the flag is `-c`, and OUT and CERT are different words
-abbrev pub are_of_slow : List ℕ → List ℕ → List ℕ → Bool
-are_of_slow output cert flag = bytes_eq flag (codes "-c") && not (bytes_eq output cert)
+-- ---- what the matches of a command's words say, by the names in its form
 
-abbrev pub slow_of : List (List ℕ) → Option Command
-slow_of (input ∷ output ∷ cert ∷ delays ∷ flag ∷ count ∷ []) =
-    if are_of_slow output cert flag
-    then option_map
-    (λ contexts. Slow (record { input = input; output = output; cert = cert; delays = delays; contexts = contexts }))
-    (contexts_of count)
-    else None
-slow_of _ = None
+-- the text of a name; where the words are taken, a name that is required has one
+abbrev pub text_at : List Row → List ℕ → List ℕ
+text_at rows name = unwrap_or (first_of name rows) []
 
-abbrev pub sim_of : List (List ℕ) → Option Command
-sim_of (net ∷ stim ∷ []) = Some (Sim (record { net = net; stim = stim }))
-sim_of _ = None
+-- all texts of a name
+abbrev pub texts_at : List Row → List ℕ → List (List ℕ)
+texts_at rows name = unwrap_or (all_of name rows) []
 
--- the files and a context of a number of contexts
-abbrev pub context_in : ℕ → List ℕ → List ℕ → List ℕ → List ℕ → Option Command
-context_in contexts net stim images place =
-    option_map
-    (λ k. SimContext (record { net = net; stim = stim; images = images; k = k; contexts = contexts }))
-    (context_of contexts place)
+abbrev pub number_at : List Row → List ℕ → Result ℕ WordError
+number_at rows name = ok_or (number_of (text_at rows name)) (BadNumber name)
 
-abbrev pub sim_context_of : List (List ℕ) → Option Command
-sim_context_of (net ∷ stim ∷ images ∷ place ∷ count ∷ []) =
-    option_and_then (λ contexts. context_in contexts net stim images place) (contexts_of count)
-sim_context_of _ = None
+abbrev pub contexts_at : List Row → List ℕ → Result ℕ WordError
+contexts_at rows name = ok_or (contexts_of (text_at rows name)) (BadNumber name)
+
+-- K and C, where both are numbers, C is in its range and K is below C
+abbrev pub below : ℕ → ℕ → Result (ℕ × ℕ) WordError
+below k contexts = if nat_lt k contexts then Ok (k, contexts) else Err (BadNumber (codes "K"))
+
+abbrev pub context_at : List Row → Result (ℕ × ℕ) WordError
+context_at rows = follow (number_at rows (codes "K")) (λ k. follow (contexts_at rows (codes "C")) (below k))
+
+-- ---- the command of each form's matches
+
+abbrev pub slow_of : List Row → ℕ → Result Command WordError
+slow_of rows contexts =
+    if bytes_eq (text_at rows (codes "OUT")) (text_at rows (codes "CERT")) then Err SameName
+    else Ok (Slow (record {
+      input = text_at rows (codes "IN");
+      output = text_at rows (codes "OUT");
+      cert = text_at rows (codes "CERT");
+      delays = text_at rows (codes "DELAYS");
+      contexts = contexts;
+    }))
+
+abbrev pub sim_of : List Row → Command
+sim_of rows = Sim (record { net = text_at rows (codes "NET"); stim = text_at rows (codes "STIM") })
+
+abbrev pub sim_context_of : List Row → ℕ × ℕ → Result Command WordError
+sim_context_of rows context = Ok (SimContext (record {
+  net = text_at rows (codes "NET");
+  stim = text_at rows (codes "STIM");
+  images = text_at rows (codes "IMAGES");
+  k = context.0;
+  contexts = context.1;
+}))
 
 -- there are 1 to 16 streams
 abbrev pub are_streams : List (List ℕ) → Bool
 are_streams streams = nat_le 1 (length streams) && nat_le (length streams) 16
 
-abbrev pub mix_of : List (List ℕ) → Option Command
-mix_of (output ∷ streams) = if are_streams streams then Some (Mix (record { output = output; streams = streams })) else None
-mix_of _ = None
+abbrev pub mix_of : List Row → Result Command WordError
+mix_of rows =
+    if are_streams (texts_at rows (codes "STREAMS"))
+    then Ok (Mix (record { output = text_at rows (codes "OUT"); streams = texts_at rows (codes "STREAMS") }))
+    else Err (BadNumber (codes "streams"))
 
--- the file and its part of a number of contexts
-abbrev pub part_in : ℕ → List ℕ → List ℕ → Option Command
-part_in contexts place file =
-    option_map (λ k. Part (record { k = k; contexts = contexts; file = file })) (context_of contexts place)
+abbrev pub part_of : List Row → ℕ × ℕ → Result Command WordError
+part_of rows context =
+    Ok (Part (record { k = context.0; contexts = context.1; file = text_at rows (codes "FILE") }))
 
-abbrev pub part_of : List (List ℕ) → Option Command
-part_of (place ∷ count ∷ file ∷ []) = option_and_then (λ contexts. part_in contexts place file) (contexts_of count)
-part_of _ = None
+abbrev pub upgrade_of : List Row → Command
+upgrade_of rows = Upgrade (record { old = text_at rows (codes "OLD"); new = text_at rows (codes "NEW") })
 
-abbrev pub upgrade_of : List (List ℕ) → Option Command
-upgrade_of (old ∷ new ∷ []) = Some (Upgrade (record { old = old; new = new }))
-upgrade_of _ = None
+abbrev pub said_of : Verb → List Row → Result Command WordError
+said_of verb.Slow rows = follow (contexts_at rows (codes "-c")) (slow_of rows)
+said_of verb.Sim rows = Ok (sim_of rows)
+said_of verb.SimContext rows = follow (context_at rows) (sim_context_of rows)
+said_of verb.Mix rows = mix_of rows
+said_of verb.Part rows = follow (context_at rows) (part_of rows)
+said_of verb.Upgrade rows = Ok (upgrade_of rows)
+said_of verb.Help rows = Ok Help
+said_of verb.Version rows = Ok Version
 
 -- ---- all words
 
--- the command that is said behind its name, or that the words have another form
-abbrev pub said_by : List ℕ → Option Command → Result Command WordError
-said_by name (Some command) = Ok command
-said_by name None = Err (BadWords name)
+-- what is said where the form takes the words, of which it finds no fault, and else that it refuses the words of this name
+abbrev pub taken_by : Kinds → List ℕ → Result Command WordError → Result Command WordError
+taken_by [] name said = said
+taken_by (_ ∷ _) name said = Err (BadWords name)
+
+-- the command that the words of a form say, the first of which is this name
+unfoldable pub said_by : Verb → List ℕ → List (List ℕ) → Result Command WordError
+said_by verb name words =
+    taken_by (fault_of (form_of verb) words) name (said_of verb (matches_of (form_of verb) words))
 
 -- the command of the words after the program's name, or why there is none; that is never want of memory
 abbrev pub command_of : List (List ℕ) → Result Command WordError
 command_of [] = Err NoCommand
-command_of (name ∷ words) =
-    if bytes_eq name (codes "slow") then said_by name (slow_of words)
-    else (if bytes_eq name (codes "sim") then said_by name (sim_of words)
-    else (if bytes_eq name (codes "sim-context") then said_by name (sim_context_of words)
-    else (if bytes_eq name (codes "mix") then said_by name (mix_of words)
-    else (if bytes_eq name (codes "part") then said_by name (part_of words)
-    else (if bytes_eq name (codes "upgrade") then said_by name (upgrade_of words)
-    else Err NoCommand)))))
+command_of (name ∷ words) = option_map_or (λ verb. said_by verb name (name ∷ words)) (verb_of name) (Err NoCommand)
 
 -- what reading the words answers: just what they say, unless memory ran out
-abbrev pub Reads : Result Command WordError → Result Command WordError → Type 0
-Reads said (Ok command) = said ≡ Ok command
-Reads said (Err NoCommand) = said ≡ Err NoCommand
-Reads said (Err (BadWords command)) = said ≡ Err (BadWords command)
+abbrev pub Reads : {T : Type 0} → Result T WordError → Result T WordError → Type 0
+Reads said (Ok value) = said ≡ Ok value
 Reads said (Err NoMemory) = ⊤
+Reads said (Err error) = said ≡ Err error
 
 -- `mix` has 1 to 16 streams, and `sim-context` and `part` a place below their number of contexts
 abbrev pub IsWithin : Command → Type 0
-IsWithin (Slow words) = ⊤
-IsWithin (Sim words) = ⊤
 IsWithin (SimContext words) = words.k < words.contexts
 IsWithin (Mix words) = (1 ≤ length words.streams) × (length words.streams ≤ 16)
 IsWithin (Part words) = words.k < words.contexts
-IsWithin (Upgrade words) = ⊤
+IsWithin _ = ⊤

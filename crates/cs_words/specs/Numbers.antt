@@ -29,10 +29,3 @@ within_contexts count = if nat_le 1 count && nat_le count 16 then Some count els
 
 abbrev pub contexts_of : List ℕ → Option ℕ
 contexts_of word = option_and_then within_contexts (number_of word)
-
--- the place, if it is below so many contexts
-abbrev pub within : ℕ → ℕ → Option ℕ
-within contexts place = if nat_lt place contexts then Some place else None
-
-abbrev pub context_of : ℕ → List ℕ → Option ℕ
-context_of contexts word = option_and_then (within contexts) (number_of word)

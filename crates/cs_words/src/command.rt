@@ -10,6 +10,8 @@ pub enum Command {
     Mix(MixWords),
     Part(PartWords),
     Upgrade(UpgradeWords),
+    Help,
+    Version,
 }
 
 /// `slow IN OUT CERT DELAYS -c C`

@@ -1,167 +1,99 @@
-// The form of each command's words behind its name.
-ghost use Rattle.std.specs.Prelude.{◌≡◌, IfOk, IfSome};
-ghost use Rattle.cs_words.specs.Commands.{are_of_slow, texts, slow_of, sim_of, sim_context_of, mix_of, part_of, upgrade_of, IsWithin};
+// The form of each command's words: a `clap` command, which takes the words or refuses them.
+ghost use Rattle.std.specs.Prelude.{◌≡◌, false, map, IfOk};
+ghost use Rattle.clap.specs.Words.{app_of, rule_of};
+ghost use Rattle.cs_words.specs.Forms.{all_named, form, form_of, mix_form, named, option, part_form, sim_context_form, sim_form, slow_form, upgrade_form};
 
-use crate::command::{
-    Command, MixWords, PartWords, SimContextWords, SimWords, SlowWords, UpgradeWords,
-};
-use crate::number::{read_context, read_contexts};
-use cs_base::{Contexts, Sequence, Text};
+use crate::verb::Verb;
+use clap::{Arg, Command};
 use std::alloc::{AllocError, Global};
 
-const MOST_STREAMS: usize = 16;
-
-/// `IN OUT CERT DELAYS -c C`, with different words OUT and CERT and C from 1 to 16.
-pub(crate) fn read_slow(alloc: Global, words: &[String]) -> Result<Option<Command>, AllocError>
-    ensures said { IfOk result (λ said. said ≡ slow_of (texts words.now)) }
-    ensures within { IfOk result (λ said. IfSome said IsWithin) }
+/// The `clap` command of a first word.
+pub(crate) fn form_of<'a>(alloc: Global, verb: Verb) -> Result<Command<'a>, AllocError>
+    ensures { IfOk result (λ form. app_of form ≡ form_of verb) }
 {
-    let [input, output, cert, delays, flag, count] = words else {
-        return Ok(None);
-    };
-    if !are_of_slow(output.as_str(), cert.as_str(), flag.as_str()) {
-        return Ok(None);
+    match verb {
+        Verb::Slow => slow_form(alloc),
+        Verb::Sim => sim_form(alloc),
+        Verb::SimContext => sim_context_form(alloc),
+        Verb::Mix => mix_form(alloc),
+        Verb::Part => part_form(alloc),
+        Verb::Upgrade => upgrade_form(alloc),
+        Verb::Help => named_form(alloc, "help", &[]),
+        Verb::Version => named_form(alloc, "version", &[]),
     }
-    let Some(contexts) = read_contexts(count.as_bytes()) else {
-        return Ok(None);
-    };
-    let words = slow_words(
-        alloc,
-        input.as_str(),
-        output.as_str(),
-        cert.as_str(),
-        delays.as_str(),
-        contexts,
-    )?;
-    Ok(Some(Command::Slow(words)))
 }
 
-fn are_of_slow(output: &str, cert: &str, flag: &str) -> bool
-    ensures { result ≡ are_of_slow output.now cert.now flag.now }
+fn slow_form<'a>(alloc: Global) -> Result<Command<'a>, AllocError>
+    ensures { IfOk result (λ form. app_of form ≡ slow_form) }
 {
-    flag == "-c" && output != cert
+    named_form(alloc, "slow", &["IN", "OUT", "CERT", "DELAYS"])?.arg(option(alloc, "-c", 'c'))
 }
 
-fn slow_words(
+fn sim_form<'a>(alloc: Global) -> Result<Command<'a>, AllocError>
+    ensures { IfOk result (λ form. app_of form ≡ sim_form) }
+{
+    named_form(alloc, "sim", &["NET", "STIM"])
+}
+
+fn sim_context_form<'a>(alloc: Global) -> Result<Command<'a>, AllocError>
+    ensures { IfOk result (λ form. app_of form ≡ sim_context_form) }
+{
+    named_form(alloc, "sim-context", &["NET", "STIM", "IMAGES", "K", "C"])
+}
+
+fn mix_form<'a>(alloc: Global) -> Result<Command<'a>, AllocError>
+    ensures { IfOk result (λ form. app_of form ≡ mix_form) }
+{
+    named_form(alloc, "mix", &["OUT"])?.arg(all_named(alloc, "STREAMS"))
+}
+
+fn part_form<'a>(alloc: Global) -> Result<Command<'a>, AllocError>
+    ensures { IfOk result (λ form. app_of form ≡ part_form) }
+{
+    named_form(alloc, "part", &["K", "C", "FILE"])
+}
+
+fn upgrade_form<'a>(alloc: Global) -> Result<Command<'a>, AllocError>
+    ensures { IfOk result (λ form. app_of form ≡ upgrade_form) }
+{
+    named_form(alloc, "upgrade", &["OLD", "NEW"])
+}
+
+// The command with these names and numbers in their places.
+fn named_form<'a>(
     alloc: Global,
-    input: &str,
-    output: &str,
-    cert: &str,
-    delays: &str,
-    contexts: Contexts,
-) -> Result<SlowWords, AllocError>
-    ensures { IfOk result (λ w. w ≡ record {
-      input = input.now;
-      output = output.now;
-      cert = cert.now;
-      delays = delays.now;
-      contexts = contexts;
-    }) }
+    name: &'a str,
+    places: &[&'a str],
+) -> Result<Command<'a>, AllocError>
+    ensures { IfOk result (λ made. app_of made ≡ form name.entry.now (map (λ place. named place.now) places.now)) }
 {
-    Ok(SlowWords {
-        input: Text::from_str(alloc, input)?,
-        output: Text::from_str(alloc, output)?,
-        cert: Text::from_str(alloc, cert)?,
-        delays: Text::from_str(alloc, delays)?,
-        contexts,
-    })
-}
-
-/// `NET STIM`
-pub(crate) fn read_sim(alloc: Global, words: &[String]) -> Result<Option<Command>, AllocError>
-    ensures said { IfOk result (λ said. said ≡ sim_of (texts words.now)) }
-    ensures within { IfOk result (λ said. IfSome said IsWithin) }
-{
-    let [net, stim] = words else {
-        return Ok(None);
-    };
-    let net = Text::from_str(alloc, net.as_str())?;
-    let stim = Text::from_str(alloc, stim.as_str())?;
-    Ok(Some(Command::Sim(SimWords { net, stim })))
-}
-
-/// `NET STIM IMAGES K C`, with C from 1 to 16 and K below C.
-pub(crate) fn read_sim_context(
-    alloc: Global,
-    words: &[String],
-) -> Result<Option<Command>, AllocError>
-    ensures said { IfOk result (λ said. said ≡ sim_context_of (texts words.now)) }
-    ensures within { IfOk result (λ said. IfSome said IsWithin) }
-{
-    let [net, stim, images, place, count] = words else {
-        return Ok(None);
-    };
-    let Some(contexts) = read_contexts(count.as_bytes()) else {
-        return Ok(None);
-    };
-    let Some(k) = read_context(place.as_bytes(), contexts) else {
-        return Ok(None);
-    };
-    let net = Text::from_str(alloc, net.as_str())?;
-    let stim = Text::from_str(alloc, stim.as_str())?;
-    let images = Text::from_str(alloc, images.as_str())?;
-    Ok(Some(Command::SimContext(SimContextWords {
-        net,
-        stim,
-        images,
-        k,
-        contexts,
-    })))
-}
-
-/// `OUT STREAMS`, with 1 to 16 streams.
-pub(crate) fn read_mix(alloc: Global, words: &[String]) -> Result<Option<Command>, AllocError>
-    ensures said { IfOk result (λ said. said ≡ mix_of (texts words.now)) }
-    ensures within { IfOk result (λ said. IfSome said IsWithin) }
-{
-    let [output, streams @ ..] = words else {
-        return Ok(None);
-    };
-    if streams.is_empty() || streams.len() > MOST_STREAMS {
-        return Ok(None);
+    let mut form = Command::new(alloc, name);
+    for place in places {
+        form = form.arg(named(alloc, place))?;
     }
-    let output = Text::from_str(alloc, output.as_str())?;
-    let streams = names(alloc, streams)?;
-    Ok(Some(Command::Mix(MixWords { output, streams })))
+    Ok(form)
 }
 
-fn names(alloc: Global, words: &[String]) -> Result<Sequence<Text>, AllocError>
-    ensures { IfOk result (λ names. names ≡ texts words.now) }
+// A name or a number in its place.
+fn named<'a>(alloc: Global, name: &'a str) -> Arg<'a>
+    ensures rule { rule_of result ≡ named name.entry.now }
+    ensures local { result.global ≡ false }
 {
-    let mut names = Sequence::new(alloc);
-    for word in words {
-        names.push(Text::from_str(alloc, word.as_str())?)?;
-    }
-    Ok(names)
+    Arg::new(alloc, name).required(true)
 }
 
-/// `K C FILE`, with C from 1 to 16 and K below C.
-pub(crate) fn read_part(alloc: Global, words: &[String]) -> Result<Option<Command>, AllocError>
-    ensures said { IfOk result (λ said. said ≡ part_of (texts words.now)) }
-    ensures within { IfOk result (λ said. IfSome said IsWithin) }
+// Any number of names at the end.
+fn all_named<'a>(alloc: Global, name: &'a str) -> Arg<'a>
+    ensures rule { rule_of result ≡ all_named name.entry.now }
+    ensures local { result.global ≡ false }
 {
-    let [place, count, file] = words else {
-        return Ok(None);
-    };
-    let Some(contexts) = read_contexts(count.as_bytes()) else {
-        return Ok(None);
-    };
-    let Some(k) = read_context(place.as_bytes(), contexts) else {
-        return Ok(None);
-    };
-    let file = Text::from_str(alloc, file.as_str())?;
-    Ok(Some(Command::Part(PartWords { k, contexts, file })))
+    Arg::new(alloc, name).num_args(0..)
 }
 
-/// `OLD NEW`
-pub(crate) fn read_upgrade(alloc: Global, words: &[String]) -> Result<Option<Command>, AllocError>
-    ensures said { IfOk result (λ said. said ≡ upgrade_of (texts words.now)) }
-    ensures within { IfOk result (λ said. IfSome said IsWithin) }
+// An option that must be given, with one text behind its letter.
+fn option<'a>(alloc: Global, name: &'a str, letter: char) -> Arg<'a>
+    ensures rule { rule_of result ≡ option name.entry.now letter }
+    ensures local { result.global ≡ false }
 {
-    let [old, new] = words else {
-        return Ok(None);
-    };
-    let old = Text::from_str(alloc, old.as_str())?;
-    let new = Text::from_str(alloc, new.as_str())?;
-    Ok(Some(Command::Upgrade(UpgradeWords { old, new })))
+    named(alloc, name).short(letter)
 }

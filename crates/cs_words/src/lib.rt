@@ -5,6 +5,8 @@ mod command;
 mod forms;
 mod number;
 mod read;
+mod said;
+mod verb;
 
 pub use command::{
     Command, MixWords, PartWords, SimContextWords, SimWords, SlowWords, UpgradeWords,

@@ -1,13 +1,13 @@
 // Numbers among the words: 1 to 20 decimal digits, where zeros may lead.
 ghost use Rattle.std.specs.Prelude.{◌≡◌, ◌<◌, ◌≤◌, ◌^◌, length, IsTrue};
-ghost use Rattle.cs_words.specs.Numbers.{number_of, value_of, are_digits, contexts_of, context_of};
+ghost use Rattle.cs_words.specs.Numbers.{number_of, value_of, are_digits, contexts_of};
 
 use cs_base::Contexts;
 
 const MOST_DIGITS: usize = 20;
 
 /// The number that a word stands for, and None where it is no number.
-pub fn read_number(word: &[u8]) -> Option<u128>
+pub(crate) fn number_of(word: &[u8]) -> Option<u128>
     ensures { result ≡ number_of word.now }
 {
     if word.is_empty() || word.len() > MOST_DIGITS || !are_digits(word) {
@@ -35,23 +35,12 @@ fn value(word: &[u8]) -> u128
 }
 
 /// The contexts that a word stands for, and None where it stands for no number from 1 to 16.
-pub fn read_contexts(word: &[u8]) -> Option<Contexts>
+pub(crate) fn contexts_of(word: &[u8]) -> Option<Contexts>
     ensures { result ≡ contexts_of word.now }
 {
-    let number = read_number(word)?;
+    let number = number_of(word)?;
     if number > 16 {
         return None;
     }
     Contexts::new(number as u64)
-}
-
-/// The place below the number of contexts that a word stands for, and None where it stands for none.
-pub(crate) fn read_context(word: &[u8], contexts: Contexts) -> Option<u32>
-    ensures { result ≡ context_of contexts word.now }
-{
-    let number = read_number(word)?;
-    if number >= u128::from(contexts.get()) {
-        return None;
-    }
-    Some(number as u32)
 }

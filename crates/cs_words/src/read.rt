@@ -1,22 +1,29 @@
 // Reads the words after the program's name.
-ghost use Rattle.std.specs.Prelude.{◌≡◌, ◌∷◌, ◌⊎◌, Err, IfErr, IfOk};
-ghost use Rattle.std.specs.Option.{ForSome};
-ghost use Rattle.std.specs.Result.{ForOk};
+ghost use Rattle.std.specs.Prelude.{◌≡◌, ◌≢◌, ◌⊎◌, [], true, IfErr, IfOk};
+ghost use Rattle.clap.specs.Words.{app_of, fault_of, found_of, is_simple_and_free, matches_of, rows_of};
 ghost use Rattle.cs_words.specs.Commands.{texts, command_of, said_by, IsWithin, Reads};
 ghost use Rattle.cs_words.specs.declared.read.WordError.TheVariants.{BadWords, NoMemory};
 
 use crate::command::Command;
-use crate::forms::{read_mix, read_part, read_sim, read_sim_context, read_slow, read_upgrade};
+use crate::forms::form_of;
+use crate::said::said_of;
+use crate::verb::Verb;
+use clap::ArgMatches;
+use clap::error::ErrorKind;
 use cs_base::Text;
 use std::alloc::{AllocError, Global};
 
-/// Why the words are no command.
+/// Why the words are no command, in the order in which the causes are looked for.
 #[derive(Debug, Drop)]
 pub enum WordError {
     /// There is no first word, or it names no command.
     NoCommand,
-    /// The words behind the name of this command have another form than its own.
+    /// The words behind this first word have another form than its command's.
     BadWords { command: Text },
+    /// The word of this name in the command's form is no number that is wanted there.
+    BadNumber { name: Text },
+    /// OUT and CERT of `slow` are the same word.
+    SameName,
     NoMemory,
 }
 
@@ -28,73 +35,64 @@ impl From<AllocError> for WordError {
     }
 }
 
-/// The command that the words say. `NoCommand` comes exactly where the first word names none of `slow`, `sim`, `sim-context`,
-/// `mix`, `part` and `upgrade`, or there is none. `BadWords` comes exactly where it names one and the others are not
-/// `IN OUT CERT DELAYS -c C` of `slow`, with different words OUT and CERT and C from 1 to 16; `NET STIM` of `sim`;
-/// `NET STIM IMAGES K C` of `sim-context`, with C from 1 to 16 and K below C;
-/// `OUT STREAMS` of `mix`, with 1 to 16 streams; `K C FILE` of `part`, with C from 1 to 16 and K below C; or `OLD NEW` of
-/// `upgrade`.
-/// A number is 1 to 20 decimal digits.
+/// The command that the words say. The refusals come in this order, each exactly where no earlier one does:
+/// - `NoCommand` where there is no first word, or it names none of `slow`, `sim`, `sim-context`, `mix`, `part`, `upgrade`,
+///   `help` (or `--help` or `-h`) and `version` (or `--version` or `-V`);
+/// - `BadWords`, with the first word as it stands, where the `clap` command of the first word refuses the others: those of
+///   `slow` are `IN OUT CERT DELAYS -c C`, of `sim` `NET STIM`, of `sim-context` `NET STIM IMAGES K C`, of `mix` OUT and any
+///   number of streams, of `part` `K C FILE`, of `upgrade` `OLD NEW`, and `help` and `version` have none;
+/// - `BadNumber`, with the first such name in the form's order, where C (named `-c` for `slow`) is no number from 1 to 16, or K
+///   no number or, where C is one, not below it, or where `mix` has not 1 to 16 `streams`; a number is 1 to 20 decimal digits;
+/// - `SameName` where OUT and CERT of `slow` are the same word.
 pub fn read_words(alloc: Global, words: &[String]) -> Result<Command, WordError>
     ensures said { Reads (command_of (texts words.now)) result }
     ensures within { IfOk result IsWithin }
 {
-    match words {
-        [] => Err(WordError::NoCommand),
-        [name, others @ ..] => read_command(alloc, name.as_str(), others),
+    let [name, ..] = words else {
+        return Err(WordError::NoCommand);
+    };
+    match Verb::of(name.as_str()) {
+        Some(verb) => read_form(alloc, verb, name.as_str(), words),
+        None => Err(WordError::NoCommand),
     }
 }
 
-// The command of this name, of the words behind it.
-fn read_command(alloc: Global, name: &str, others: &[String]) -> Result<Command, WordError>
-    ensures said { Reads (command_of (name.now ∷ texts others.now)) result }
+// The command of the words of a form, the first of which is this name.
+fn read_form(alloc: Global, verb: Verb, name: &str, words: &[String]) -> Result<Command, WordError>
+    ensures said { Reads (said_by verb name.now (texts words.now)) result }
     ensures within { IfOk result IsWithin }
 {
-    if name == "slow" {
-        return said_by(alloc, name, read_slow(alloc, others));
-    }
-    if name == "sim" {
-        return said_by(alloc, name, read_sim(alloc, others));
-    }
-    if name == "sim-context" {
-        return said_by(alloc, name, read_sim_context(alloc, others));
-    }
-    if name == "mix" {
-        return said_by(alloc, name, read_mix(alloc, others));
-    }
-    if name == "part" {
-        return said_by(alloc, name, read_part(alloc, others));
-    }
-    if name == "upgrade" {
-        return said_by(alloc, name, read_upgrade(alloc, others));
-    }
-    Err(WordError::NoCommand)
+    let form = form_of(alloc, verb)?;
+    let matches = matched(alloc, form, name, words)?;
+    said_of(alloc, verb, &matches)
 }
 
-// The words behind the name of this command have another form.
+// The matches of words that the form takes.
+fn matched<'a>(
+    alloc: Global,
+    form: clap::Command<'a>,
+    name: &str,
+    words: &'a [String],
+) -> Result<ArgMatches<'a>, WordError>
+    requires { is_simple_and_free (app_of form) ≡ true }
+    ensures ok { IfOk result (λ matches. (fault_of (app_of form.entry) (texts words.now) ≡ [])
+        × (rows_of (found_of matches) ≡ matches_of (app_of form.entry) (texts words.now))) }
+    ensures err { IfErr result (λ e. (e ≡ NoMemory)
+        ⊎ ((e ≡ BadWords name.now) × (fault_of (app_of form.entry) (texts words.now) ≢ []))) }
+{
+    match form.try_get_matches_from(words) {
+        Ok(matches) => Ok(matches),
+        Err(error) if error.kind() == ErrorKind::OutOfMemory => Err(WordError::NoMemory),
+        Err(_) => Err(bad_words(alloc, name)),
+    }
+}
+
+// The words behind this first word have another form.
 fn bad_words(alloc: Global, name: &str) -> WordError
     ensures { (result ≡ NoMemory) ⊎ (result ≡ BadWords name.now) }
 {
     match Text::from_str(alloc, name) {
         Ok(command) => WordError::BadWords { command },
         Err(AllocError) => WordError::NoMemory,
-    }
-}
-
-// The command that words say behind this name, or that they say none.
-fn said_by(
-    alloc: Global,
-    name: &str,
-    read: Result<Option<Command>, AllocError>,
-) -> Result<Command, WordError>
-    requires { ForOk read (λ said. ForSome said IsWithin) }
-    ensures said { IfOk read (λ said. Reads (said_by name.now said) result) }
-    ensures memory { IfErr read (λ _. result ≡ Err NoMemory) }
-    ensures within { IfOk result IsWithin }
-{
-    match read {
-        Ok(Some(command)) => Ok(command),
-        Ok(None) => Err(bad_words(alloc, name)),
-        Err(AllocError) => Err(WordError::NoMemory),
     }
 }
