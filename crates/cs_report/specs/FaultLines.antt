@@ -1,7 +1,7 @@
 -- The line of each fault.
 use Rattle.std.specs.Prelude.{ℕ, List, [], ◌∷◌, ◌++◌, codes, decimal}
 use Rattle.cs_report.specs.declared.fault.Fault.{Fault}
-use Rattle.cs_report.specs.declared.fault.Fault.TheVariants.{NoMemory, NoCommand, WordsOf, CannotRead, CannotWrite, DocumentNotJson, DocumentShape, Refused, Limit, FileTooLong, StimulusWidth, StimulusCharacter, StimulusUneven, CertificateNotJson, CertificateShape, ImagesNotJson, ImagesShape, ImagesName, ImagesCount, NotBuilt, NotBuiltCell}
+use Rattle.cs_report.specs.declared.fault.Fault.TheVariants.{NoMemory, NoCommand, WordsOf, NumberOf, SameName, CannotRead, CannotWrite, DocumentNotJson, DocumentShape, Refused, Limit, FileTooLong, StimulusWidth, StimulusCharacter, StimulusUneven, CertificateNotJson, CertificateShape, ImagesNotJson, ImagesShape, ImagesName, ImagesCount, NotBuilt, NotBuiltCell}
 use Rattle.cs_report.specs.Limits.{limit_words}
 use Rattle.cs_report.specs.Refused.{refused_words}
 use Rattle.cs_report.specs.Words.{quoted}
@@ -30,6 +30,8 @@ abbrev pub fault_words : Fault → List ℕ
 fault_words NoMemory = codes "out of memory"
 fault_words NoCommand = codes "usage: no such command"
 fault_words (WordsOf command) = codes "usage: words of " ++ command
+fault_words (NumberOf name) = codes "usage: number of " ++ name
+fault_words SameName = codes "usage: OUT and CERT are one name"
 fault_words (CannotRead name) = codes "cannot read " ++ name
 fault_words (CannotWrite name) = codes "cannot write " ++ name
 fault_words DocumentNotJson = codes "document: not json"

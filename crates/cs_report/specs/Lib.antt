@@ -2,3 +2,4 @@ pub mod Words
 pub mod Limits
 pub mod Refused
 pub mod FaultLines
+pub mod OwnTexts

@@ -19,6 +19,10 @@ pub enum Fault {
     NoCommand,
     /// The words are not those of this command.
     WordsOf(Text),
+    /// The word of this name is no number, or none that is wanted there.
+    NumberOf(Text),
+    /// Two files that are to be written have one name.
+    SameName,
     /// The file of this name can't be read.
     CannotRead(Text),
     /// The file of this name can't be written.
@@ -124,6 +128,8 @@ fn fault_words(alloc: Global, fault: &Fault) -> Result<Text, AllocError>
         Fault::NoMemory => Text::from_str(alloc, "out of memory"),
         Fault::NoCommand => Text::from_str(alloc, "usage: no such command"),
         Fault::WordsOf(command) => text_after(alloc, "usage: words of ", command.as_str()),
+        Fault::NumberOf(name) => text_after(alloc, "usage: number of ", name.as_str()),
+        Fault::SameName => Text::from_str(alloc, "usage: OUT and CERT are one name"),
         Fault::CannotRead(name) => text_after(alloc, "cannot read ", name.as_str()),
         Fault::CannotWrite(name) => text_after(alloc, "cannot write ", name.as_str()),
         Fault::DocumentNotJson => Text::from_str(alloc, "document: not json"),

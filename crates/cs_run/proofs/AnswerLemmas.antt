@@ -2,8 +2,9 @@
 use Rattle.std.proofs.Common.{◌≡◌, ◌≤◌, ◌∙◌, ℕ, List, [], ◌∷◌, ap, arith, length, refl, subst, sym}
 use Rattle.std.specs.Prelude.{Err, Ok, Result, ⊤}
 use Rattle.cs_report.specs.declared.fault.Fault.{Fault}
+use Rattle.cs_report.specs.OwnTexts.{help_text, version_text}
 use Rattle.cs_words.specs.declared.command.Command.{Command}
-use Rattle.cs_words.specs.declared.command.Command.TheVariants.{Slow, Sim, SimContext, Mix, Part, Upgrade}
+use Rattle.cs_words.specs.declared.command.Command.TheVariants.{Slow, Sim, SimContext, Mix, Part, Upgrade, Help, Version}
 use Rattle.cs_words.specs.declared.command.MixWords.{MixWords}
 use Rattle.cs_words.specs.declared.command.PartWords.{PartWords}
 use Rattle.cs_words.specs.declared.command.SimContextWords.{SimContextWords}
@@ -21,6 +22,7 @@ use Rattle.cs_run.specs.Inputs.{all_bytes, bytes_of, files_of}
 use Rattle.cs_run.specs.Mix.{AnswersMix}
 use Rattle.cs_run.specs.Part.{AnswersPart}
 use Rattle.cs_run.specs.Reasons.{Answers}
+use Rattle.cs_run.specs.Replies.{putting}
 use Rattle.cs_run.specs.Sim.{AnswersSim}
 use Rattle.cs_run.specs.SimContext.{AnswersSimContext}
 use Rattle.cs_run.specs.Slow.{AnswersSlow}
@@ -73,6 +75,17 @@ pub upgrade_answers : (command : Command) (words : UpgradeWords) (inputs : List 
     command ≡ Upgrade words → bytes ≡ bytes_of Paper inputs → AnswersUpgrade words bytes result → AnswersInputs command inputs result
 upgrade_answers command words inputs bytes result is read answers =
     of_variant command (Upgrade words) inputs result is (subst (λ b. AnswersUpgrade words b result) read answers)
+
+-- `help` and `version` put their texts
+pub help_answers : (command : Command) (inputs : List Input) (text : List ℕ) (result : Result Reply Stop) → command ≡ Help → text ≡ help_text →
+    Answers (λ reply. reply ≡ putting text) (λ _. ⊥) result → AnswersInputs command inputs result
+help_answers command inputs text result is put answers =
+    of_variant command Help inputs result is (plain _ _ result (subst (λ t. Answers (λ reply. reply ≡ putting t) (λ _. ⊥) result) put answers))
+
+pub version_answers : (command : Command) (inputs : List Input) (text : List ℕ) (result : Result Reply Stop) → command ≡ Version →
+    text ≡ version_text → Answers (λ reply. reply ≡ putting text) (λ _. ⊥) result → AnswersInputs command inputs result
+version_answers command inputs text result is put answers =
+    of_variant command Version inputs result is (plain _ _ result (subst (λ t. Answers (λ reply. reply ≡ putting t) (λ _. ⊥) result) put answers))
 
 -- ---- the number of streams
 

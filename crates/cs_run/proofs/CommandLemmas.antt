@@ -4,7 +4,7 @@ use Rattle.std.specs.Prelude.{IsSome}
 use Rattle.cs_io.specs.Stores.{Files}
 use Rattle.cs_report.specs.declared.fault.Fault.{Fault}
 use Rattle.cs_words.specs.declared.command.Command.{Command}
-use Rattle.cs_words.specs.declared.command.Command.TheVariants.{Slow, Sim, SimContext, Mix, Part, Upgrade}
+use Rattle.cs_words.specs.declared.command.Command.TheVariants.{Slow, Sim, SimContext, Mix, Part, Upgrade, Help, Version}
 use Rattle.cs_run.specs.declared.inputs.Input.{Input}
 use Rattle.cs_run.specs.declared.inputs.Role.TheVariants.{File, Images, In, Net, Paper, Stim}
 use Rattle.cs_run.specs.declared.reply.Reply.{Reply}
@@ -14,7 +14,9 @@ use Rattle.cs_run.specs.Inputs.{all_bytes, bytes_of}
 use Rattle.cs_run.specs.Reasons.{Reason}
 use Rattle.cs_run.specs.Statuses.{status_of}
 use Rattle.cs_run.proofs.InputLemmas.{none_long, one_inputs}
+use Rattle.cs_report.specs.OwnTexts.{help_text, version_text}
 use Rattle.cs_run.proofs.MixLemmas.{mix_apart, mix_names, mix_status}
+use Rattle.cs_run.proofs.OwnLemmas.{own_names}
 use Rattle.cs_run.proofs.PartLemmas.{part_apart, part_names, part_status}
 use Rattle.cs_run.proofs.SimContextLemmas.{sim_context_apart, sim_context_names, sim_context_status}
 use Rattle.cs_run.proofs.SimLemmas.{sim_apart, sim_names, sim_status}
@@ -31,6 +33,8 @@ makes_done (SimContext words) inputs reply makes = ap (λ (r : Reply). r.status)
 makes_done (Mix words) inputs reply makes = ap (λ (r : Reply). r.status) makes.is
 makes_done (Part words) inputs reply makes = ap (λ (r : Reply). r.status) makes.is
 makes_done (Upgrade words) inputs reply makes = ap (λ (r : Reply). r.status) makes.is
+makes_done Help inputs reply makes = ap (λ (r : Reply). r.status) makes
+makes_done Version inputs reply makes = ap (λ (r : Reply). r.status) makes
 
 -- a reply writes only files that the command names to be written
 pub makes_names : (command : Command) (inputs : List Input) (reply : Reply) → Makes command inputs reply → AreNamed (writes_of command) reply.writes
@@ -41,6 +45,8 @@ makes_names (SimContext words) inputs reply makes =
 makes_names (Mix words) inputs reply makes = mix_names words (all_bytes inputs) reply makes
 makes_names (Part words) inputs reply makes = part_names words (bytes_of File inputs) reply makes
 makes_names (Upgrade words) inputs reply makes = upgrade_names words (bytes_of Paper inputs) reply makes
+makes_names Help inputs reply makes = own_names help_text reply makes
+makes_names Version inputs reply makes = own_names version_text reply makes
 
 apart : (command : Command) (inputs : List Input) (reply : Reply) (fault : Fault) → Makes command inputs reply → Refuses command inputs fault → ⊥
 apart (Slow words) inputs reply fault makes refuses = slow_apart words (bytes_of In inputs) reply fault makes refuses
@@ -50,6 +56,8 @@ apart (SimContext words) inputs reply fault makes refuses =
 apart (Mix words) inputs reply fault makes refuses = mix_apart words (all_bytes inputs) reply fault makes refuses
 apart (Part words) inputs reply fault makes refuses = part_apart words (bytes_of File inputs) reply fault makes refuses
 apart (Upgrade words) inputs reply fault makes refuses = upgrade_apart words (bytes_of Paper inputs) reply fault makes refuses
+apart Help inputs reply fault makes refuses = refuses
+apart Version inputs reply fault makes refuses = refuses
 
 inputs_status : (command : Command) (inputs : List Input) (a b : Reason) → Refuses command inputs a.fault → Refuses command inputs b.fault →
     status_of a.fault ≡ status_of b.fault
@@ -60,6 +68,8 @@ inputs_status (SimContext words) inputs a b h k =
 inputs_status (Mix words) inputs a b h k = mix_status (all_bytes inputs) a b h k
 inputs_status (Part words) inputs a b h k = part_status (bytes_of File inputs) a b h k
 inputs_status (Upgrade words) inputs a b h k = upgrade_status (bytes_of Paper inputs) a b h k
+inputs_status Help inputs a b h k = absurd h
+inputs_status Version inputs a b h k = absurd h
 
 -- ---- all commands
 

@@ -1,8 +1,9 @@
 -- The contract of a run, from the table of statuses.
 use Rattle.std.proofs.Common.{◌≡◌, ◌==◌, ◌⊎◌, ◌∙◌, ℕ, suc, Bool, true, false, cond, eqb-true, List, [], ◌∷◌, Contains, arith, ap, inl, inr, refl, subst, sym}
 use Rattle.std.specs.Prelude.{Ok}
+use Rattle.cs_report.specs.OwnTexts.{help_text, version_text}
 use Rattle.cs_words.specs.declared.command.Command.{Command}
-use Rattle.cs_words.specs.declared.command.Command.TheVariants.{Mix, Part, Sim, SimContext, Slow, Upgrade}
+use Rattle.cs_words.specs.declared.command.Command.TheVariants.{Help, Mix, Part, Sim, SimContext, Slow, Upgrade, Version}
 use Rattle.cs_words.specs.Commands.{command_of}
 use Rattle.cs_run.specs.declared.status.Status.{Status}
 use Rattle.cs_run.specs.declared.status.Status.TheVariants.{Done, NoMemory, Usage, ReadFault, WriteFault}
@@ -11,8 +12,9 @@ use Rattle.cs_run.specs.Runs.{Run, RunEnds}
 use Rattle.cs_run.specs.Statuses.{all_codes, code_of, status_of}
 use Rattle.cs_run.proofs.Ends.{Finished, Unfinished}
 use Rattle.cs_run.proofs.MixLemmas.{mix_done, mix_parts_back, mix_unwritten}
+use Rattle.cs_run.proofs.OwnLemmas.{own_put, own_unput}
 use Rattle.cs_run.proofs.PartLemmas.{part_done, part_unput}
-use Rattle.cs_run.proofs.PromiseLemmas.{complete, done_row, no_memory, of_command, others, read_fault, refused, refused_only, same_status, unrefused, usage, usage_only, write_fault, write_row}
+use Rattle.cs_run.proofs.PromiseLemmas.{complete, done_row, no_memory, of_command, others, read_fault, refused, refused_only, same_status, unrefused, untouched, usage, usage_only, write_fault, write_row}
 use Rattle.cs_run.proofs.SimContextLemmas.{context_responded, context_unput}
 use Rattle.cs_run.proofs.SimLemmas.{sim_responded, sim_unput}
 use Rattle.cs_run.proofs.SlowLemmas.{slow_done, slow_isolates, slow_output, slow_unwritten}
@@ -88,4 +90,15 @@ promises run status result is ran =
           upgrade_prints run upgrade bytes paper has (upgrade_done upgrade run.old run.new (done run status (Upgrade upgrade) ran has.says (at Done to))) says;
       upgrade_reads_back = λ to upgrade bytes text has holds.
           upgrade_reads_back run upgrade bytes text has (upgrade_done upgrade run.old run.new (done run status (Upgrade upgrade) ran has.says (at Done to))) holds;
+      help_put = λ says to. own_put Help help_text run.old run.new (λ inputs reply makes. makes) (done run status Help ran says (at Done to));
+      help_unput = λ says to.
+          own_unput Help help_text run.old run.new (λ inputs reply makes. makes) (undone run status Help ran says (at WriteFault to));
+      help_reads_nothing = λ says.
+          untouched Help help_text run.old run.new status refl (λ inputs reply makes. makes) (of_command run status Help says ran);
+      version_put = λ says to.
+          own_put Version version_text run.old run.new (λ inputs reply makes. makes) (done run status Version ran says (at Done to));
+      version_unput = λ says to.
+          own_unput Version version_text run.old run.new (λ inputs reply makes. makes) (undone run status Version ran says (at WriteFault to));
+      version_reads_nothing = λ says.
+          untouched Version version_text run.old run.new status refl (λ inputs reply makes. makes) (of_command run status Version says ran);
     }

@@ -11,6 +11,7 @@ pub mod SimContextLemmas
 pub mod MixLemmas
 pub mod PartLemmas
 pub mod UpgradeLemmas
+pub mod OwnLemmas
 pub mod CommandLemmas
 pub mod AnswerLemmas
 pub mod RunLemmas

@@ -8,7 +8,7 @@ use Rattle.cs_report.specs.declared.fault.Fault.TheVariants.{NoMemory as NoMemor
 use Rattle.cs_report.specs.FaultLines.{fault_line}
 use Rattle.cs_words.specs.declared.command.Command.{Command}
 use Rattle.cs_words.specs.declared.read.WordError.{WordError}
-use Rattle.cs_words.specs.declared.read.WordError.TheVariants.{NoCommand, BadWords, NoMemory as NoMemoryForWords}
+use Rattle.cs_words.specs.declared.read.WordError.TheVariants.{NoCommand, BadWords, BadNumber, SameName, NoMemory as NoMemoryForWords}
 use Rattle.cs_words.specs.Commands.{Reads, command_of}
 use Rattle.cs_run.specs.declared.inputs.FileName.{FileName}
 use Rattle.cs_run.specs.declared.reply.NewFile.{NewFile}
@@ -27,6 +27,7 @@ use Rattle.cs_run.specs.Statuses.{all_statuses, code_of, is_of_files, status_of}
 use Rattle.cs_run.specs.Worlds.{PutsSome, PutsStop, StopsAtPut, StopsWriting, World, after_put, after_write, after_writes, file_in}
 use Rattle.cs_run.proofs.CommandLemmas.{makes_names, never_both, one_status}
 use Rattle.cs_run.proofs.Ends.{Finished, Unfinished}
+use Rattle.cs_run.proofs.OwnLemmas.{PutsText, own_put, own_unput}
 use Rattle.cs_run.proofs.RunLemmas.{Ends, RefusedBy, Unread, ends, other_status}
 use Rattle.cs_run.proofs.WorldLemmas.{Stops, others_after, others_after_stop}
 
@@ -132,6 +133,8 @@ told : (error : WordError) (old new : World) (status : Status) → status ≡ st
     ⊎ ((status ≡ Usage) × (new.store ≡ old.store) × PutsSome old.sink new.sink (fault_line (words_fault error)))
 told NoCommand old new status to store sink = inr (to, store, sink)
 told (BadWords command) old new status to store sink = inr (to, store, sink)
+told (BadNumber name) old new status to store sink = inr (to, store, sink)
+told SameName old new status to store sink = inr (to, store, sink)
 told NoMemoryForWords old new status to store sink = inl (to, record { store = inl store; sink = sink })
 
 error_row : (error : WordError) (old new : World) (status : Status) → RanWords error old new status →
@@ -207,6 +210,23 @@ refused_only run status asked ran of to =
     record { command = command; reason = row.reason; says = says; has = row.has; to = sym row.to ∙ to; store = row.store; sink = row.sink })
     (λ error says r. no_error error run.old run.new status r (λ is. no_other asked Usage of (sym to ∙ is) refl) (λ is. no_other asked NoMemory of (sym to ∙ is) refl))
     ran
+
+-- ---- commands of no files
+
+no_reading : (old new : StoreState) → OnlyReads [] old new → new ≡ old
+no_reading old new (inl same) = same
+no_reading old new (inr fails) = absurd fails.reached
+
+-- a command that reads no file, and only puts a text, leaves the store as it was
+pub untouched : (command : Command) (text : List ℕ) (old new : World) (status : Status) → reads_of command ≡ [] → PutsText command text →
+    Ends command old new status → new.store ≡ old.store
+untouched command text old new status none puts (inl (is, f)) = (own_put command text old new puts f).store
+untouched command text old new status none puts (inr (inl (is, memory))) =
+    no_reading old.store new.store (subst (λ reads. OnlyReads reads old.store new.store) none memory.store)
+untouched command text old new status none puts (inr (inr (inl (is, row)))) =
+    absurd (subst (λ reads. ReadUpTo old.store.files reads row.fails.name) none row.fails.reached)
+untouched command text old new status none puts (inr (inr (inr (inl (is, f))))) = (own_unput command text old new puts f).store
+untouched command text old new status none puts (inr (inr (inr (inr row)))) = row.store
 
 -- ---- exactly where
 
@@ -347,5 +367,7 @@ pub misused : (run : Run) (status : Status) (error : WordError) (stop : Stop) �
     StopsAt (words_fault error) stop → PutsStop stop run.old.sink run.new.sink status → RunEnds run status
 misused run status NoCommand stop says store at puts = refused_words run status NoCommand stop says store at puts
 misused run status (BadWords command) stop says store at puts = refused_words run status (BadWords command) stop says store at puts
+misused run status (BadNumber name) stop says store at puts = refused_words run status (BadNumber name) stop says store at puts
+misused run status SameName stop says store at puts = refused_words run status SameName stop says store at puts
 misused run status NoMemoryForWords OutOfMemory says store at (to, sink) = subst (λ s. RunEnds run s) (sym to) (dry_run run store sink)
 misused run status NoMemoryForWords (Refused refusal) says store at puts = absurd (at.0 refl)

@@ -5,13 +5,15 @@ use Rattle.std.specs.Prelude.{ℕ, ◌≡◌, ◌⊎◌, ⊤, List, [], ◌∷�
 use Rattle.cs_io.specs.Stores.{Files}
 use Rattle.cs_report.specs.declared.fault.Fault.{Fault}
 use Rattle.cs_report.specs.declared.fault.Fault.TheVariants.{FileTooLong}
+use Rattle.cs_report.specs.OwnTexts.{help_text, version_text}
 use Rattle.cs_words.specs.declared.command.Command.{Command}
-use Rattle.cs_words.specs.declared.command.Command.TheVariants.{Slow, Sim, SimContext, Mix, Part, Upgrade}
+use Rattle.cs_words.specs.declared.command.Command.TheVariants.{Slow, Sim, SimContext, Mix, Part, Upgrade, Help, Version}
 use Rattle.cs_run.specs.declared.inputs.FileName.{FileName}
 use Rattle.cs_run.specs.declared.inputs.Input.{Input}
 use Rattle.cs_run.specs.declared.inputs.Role.TheVariants.{File, Images, In, Net, Paper, Stim}
 use Rattle.cs_run.specs.declared.reply.Reply.{Reply}
 use Rattle.cs_run.specs.Inputs.{FilesHave, FirstTooLong, all_bytes, bytes_of}
+use Rattle.cs_run.specs.Replies.{putting}
 use Rattle.cs_run.specs.Slow.{BuildsIsolate, MakesSlow, RefusesSlow, slow_reads}
 use Rattle.cs_run.specs.Sim.{MakesSim, RefusesSim, sim_reads}
 use Rattle.cs_run.specs.SimContext.{MakesSimContext, RefusesSimContext, sim_context_reads}
@@ -29,6 +31,8 @@ reads_of (SimContext words) = sim_context_reads words
 reads_of (Mix words) = mix_reads words
 reads_of (Part words) = part_reads words
 reads_of (Upgrade words) = upgrade_reads words
+reads_of Help = []
+reads_of Version = []
 
 -- the names of the files that a command may write
 abbrev pub writes_of : Command → List (List ℕ)
@@ -38,6 +42,8 @@ writes_of (SimContext words) = []
 writes_of (Mix words) = words.output ∷ []
 writes_of (Part words) = []
 writes_of (Upgrade words) = words.new ∷ []
+writes_of Help = []
+writes_of Version = []
 
 -- a command answers its inputs with this reply
 abbrev pub Makes : Command → List Input → Reply → Type 0
@@ -48,6 +54,8 @@ Makes (SimContext words) inputs reply =
 Makes (Mix words) inputs reply = MakesMix words (all_bytes inputs) reply
 Makes (Part words) inputs reply = MakesPart words (bytes_of File inputs) reply
 Makes (Upgrade words) inputs reply = MakesUpgrade words (bytes_of Paper inputs) reply
+Makes Help inputs reply = reply ≡ putting help_text
+Makes Version inputs reply = reply ≡ putting version_text
 
 -- whatever the command makes of these inputs is right
 abbrev pub MakesRight : Command → List Input → Type 0
@@ -57,6 +65,8 @@ MakesRight (SimContext words) inputs = ⊤
 MakesRight (Mix words) inputs = MixesGiveBack (all_bytes inputs)
 MakesRight (Part words) inputs = ⊤
 MakesRight (Upgrade words) inputs = UpgradesAlike (bytes_of Paper inputs)
+MakesRight Help inputs = ⊤
+MakesRight Version inputs = ⊤
 
 -- a command is refused because its inputs have this fault
 abbrev pub Refuses : Command → List Input → Fault → Type 0
@@ -67,6 +77,8 @@ Refuses (SimContext words) inputs fault =
 Refuses (Mix words) inputs fault = RefusesMix (all_bytes inputs) fault
 Refuses (Part words) inputs fault = RefusesPart (bytes_of File inputs) fault
 Refuses (Upgrade words) inputs fault = RefusesUpgrade (bytes_of Paper inputs) fault
+Refuses Help inputs fault = ⊥
+Refuses Version inputs fault = ⊥
 
 -- ---- all commands
 

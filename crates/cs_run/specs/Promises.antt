@@ -7,8 +7,9 @@ use Rattle.cs_io.specs.Faults.{Rose}
 use Rattle.cs_io.specs.Stores.{Files}
 use Rattle.cs_report.specs.declared.fault.Fault.TheVariants.{CannotRead}
 use Rattle.cs_report.specs.FaultLines.{fault_line}
+use Rattle.cs_report.specs.OwnTexts.{help_text, version_text}
 use Rattle.cs_words.specs.declared.command.Command.{Command}
-use Rattle.cs_words.specs.declared.command.Command.TheVariants.{Mix, Part, Sim, SimContext, Slow, Upgrade}
+use Rattle.cs_words.specs.declared.command.Command.TheVariants.{Help, Mix, Part, Sim, SimContext, Slow, Upgrade, Version}
 use Rattle.cs_words.specs.declared.command.MixWords.{MixWords}
 use Rattle.cs_words.specs.declared.command.PartWords.{PartWords}
 use Rattle.cs_words.specs.declared.command.SimContextWords.{SimContextWords}
@@ -31,7 +32,7 @@ use Rattle.cs_run.specs.SimContext.{CouldNotRespondContext, HasRespondedContext}
 use Rattle.cs_run.specs.Slow.{CouldNotWriteOut, HasWritten, IsBuilt}
 use Rattle.cs_run.specs.Statuses.{all_codes, code_of, is_of_files, status_of}
 use Rattle.cs_run.specs.Upgrade.{CouldNotWriteNew, HasUpgraded}
-use Rattle.cs_run.specs.Worlds.{PutsSome, StopsAtPut, StopsAtWrite, after_writes, file_in}
+use Rattle.cs_run.specs.Worlds.{FailsPutting, PutsOnly, PutsSome, StopsAtPut, StopsAtWrite, after_writes, file_in}
 
 -- ---- names
 
@@ -170,3 +171,10 @@ pub record Promises (run : Run) (result : ℕ) : Type 0 where
       → paper_of bytes ≡ Says paper → file_in run.new.store.files upgrade.new ≡ Some (Some (printed paper))
   pub upgrade_reads_back : result ≡ 0 → (upgrade : UpgradeWords) (bytes text : List ℕ) → HasOld run upgrade bytes
       → file_in run.new.store.files upgrade.new ≡ Some (Some text) → paper_of text ≡ paper_of bytes
+  -- `help` and `version` at status 0: their texts are put; whatever the status, no file was read or written
+  pub help_put : command_of run.words ≡ Ok Help → result ≡ 0 → PutsOnly run.old run.new help_text
+  pub help_unput : command_of run.words ≡ Ok Help → result ≡ 4 → FailsPutting run.old run.new help_text
+  pub help_reads_nothing : command_of run.words ≡ Ok Help → run.new.store ≡ run.old.store
+  pub version_put : command_of run.words ≡ Ok Version → result ≡ 0 → PutsOnly run.old run.new version_text
+  pub version_unput : command_of run.words ≡ Ok Version → result ≡ 4 → FailsPutting run.old run.new version_text
+  pub version_reads_nothing : command_of run.words ≡ Ok Version → run.new.store ≡ run.old.store

@@ -4,11 +4,11 @@ use Rattle.std.specs.Bool.{OnFalse}
 use Rattle.std.specs.declared.alloc.Global.{Global}
 use Rattle.cs_io.specs.Stores.{FileHas, IsMissing, StoreState}
 use Rattle.cs_report.specs.declared.fault.Fault.{Fault}
-use Rattle.cs_report.specs.declared.fault.Fault.TheVariants.{NoMemory as NoMemoryFault, NoCommand as NoCommandFault, WordsOf, CannotRead, FileTooLong}
+use Rattle.cs_report.specs.declared.fault.Fault.TheVariants.{NoMemory as NoMemoryFault, NoCommand as NoCommandFault, WordsOf, NumberOf, SameName as SameNameFault, CannotRead, FileTooLong}
 use Rattle.cs_report.specs.FaultLines.{fault_line}
 use Rattle.cs_words.specs.declared.command.Command.{Command}
 use Rattle.cs_words.specs.declared.read.WordError.{WordError}
-use Rattle.cs_words.specs.declared.read.WordError.TheVariants.{NoCommand, BadWords, NoMemory as NoMemoryForWords}
+use Rattle.cs_words.specs.declared.read.WordError.TheVariants.{NoCommand, BadWords, BadNumber, SameName, NoMemory as NoMemoryForWords}
 use Rattle.cs_words.specs.Commands.{command_of}
 use Rattle.cs_run.specs.declared.inputs.FileName.{FileName}
 use Rattle.cs_run.specs.declared.inputs.Input.{Input}
@@ -116,6 +116,8 @@ Ran command old new status =
 abbrev pub words_fault : WordError → Fault
 words_fault NoCommand = NoCommandFault
 words_fault (BadWords command) = WordsOf command
+words_fault (BadNumber name) = NumberOf name
+words_fault SameName = SameNameFault
 words_fault NoMemoryForWords = NoMemoryFault
 
 -- words that say no command are refused, and the store stays

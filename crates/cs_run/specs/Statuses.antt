@@ -45,6 +45,8 @@ abbrev pub status_of : Fault → Status
 status_of fault.NoMemory = NoMemory
 status_of fault.NoCommand = Usage
 status_of (fault.WordsOf command) = Usage
+status_of (fault.NumberOf name) = Usage
+status_of fault.SameName = Usage
 status_of (fault.CannotRead name) = ReadFault
 status_of (fault.CannotWrite name) = WriteFault
 status_of fault.DocumentNotJson = DocumentFault

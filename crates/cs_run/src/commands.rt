@@ -11,6 +11,7 @@ use crate::context::answer_sim_context;
 use crate::finish::{carry_out, put_stop};
 use crate::inputs::{FileName, Input, Role, bytes_of, file, read_inputs};
 use crate::mixing::answer_mix;
+use crate::own_texts::answer_own;
 use crate::parting::answer_part;
 use crate::reply::Reply;
 use crate::simulation::answer_sim;
@@ -20,6 +21,7 @@ use crate::stop::Stop;
 use crate::upgrading::answer_upgrade;
 use cs_base::{Sequence, Text};
 use cs_io::{Sink, Store};
+use cs_report::{help_text, version_text};
 use cs_words::Command;
 use std::alloc::{AllocError, Global};
 
@@ -41,6 +43,7 @@ fn reads_of(alloc: Global, command: &Command) -> Result<Sequence<FileName>, Allo
         Command::Mix(words) => files_of(alloc, Role::Stream, words.streams.as_slice()),
         Command::Part(words) => one_file(alloc, Role::File, &words.file),
         Command::Upgrade(words) => one_file(alloc, Role::Paper, &words.old),
+        Command::Help | Command::Version => Ok(Sequence::new(alloc)),
     }
 }
 
@@ -69,6 +72,8 @@ fn answer_inputs(alloc: Global, command: &Command, inputs: &[Input]) -> Result<R
         Command::Mix(words) => answer_mix(alloc, words, inputs),
         Command::Part(words) => answer_part(alloc, words, bytes_of(Role::File, inputs)),
         Command::Upgrade(words) => answer_upgrade(alloc, words, bytes_of(Role::Paper, inputs)),
+        Command::Help => answer_own(alloc, help_text()),
+        Command::Version => answer_own(alloc, version_text()),
     }
 }
 

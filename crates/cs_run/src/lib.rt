@@ -9,6 +9,7 @@ mod in_memory;
 mod inputs;
 mod mixing;
 mod netlists;
+mod own_texts;
 mod parting;
 mod program;
 mod reply;

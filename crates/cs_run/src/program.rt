@@ -49,6 +49,8 @@ fn misused(alloc: Global, error: WordError) -> Stop
     match error {
         WordError::NoCommand => stop_at(alloc, Fault::NoCommand),
         WordError::BadWords { command } => stop_at(alloc, Fault::WordsOf(command)),
+        WordError::BadNumber { name } => stop_at(alloc, Fault::NumberOf(name)),
+        WordError::SameName => stop_at(alloc, Fault::SameName),
         WordError::NoMemory => Stop::OutOfMemory,
     }
 }

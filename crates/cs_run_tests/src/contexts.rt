@@ -62,11 +62,7 @@ fn images_of_contexts(rt: HostRuntime) {
             11,
             "stimulus: line 1 has another length\n",
         ),
-        (
-            "sim-context net rows images 2 2",
-            2,
-            "usage: words of sim-context\n",
-        ),
+        ("sim-context net rows images 2 2", 2, "usage: number of K\n"),
         (
             "sim-context net rows images 0",
             2,

@@ -22,4 +22,6 @@ mod streams;
 #[cfg(test)]
 mod upgraded;
 #[cfg(test)]
+mod words;
+#[cfg(test)]
 mod written;

@@ -25,7 +25,7 @@ fn mixed_and_parted(rt: HostRuntime) {
 }
 
 #[test]
-fn refused_words_and_rows(rt: HostRuntime) {
+fn refused_rows(rt: HostRuntime) {
     let mut store = store_of(
         &rt,
         &[
@@ -54,17 +54,6 @@ fn refused_words_and_rows(rt: HostRuntime) {
         ("part 0 2 empty", 0, ""),
         ("part 0 2 none", 3, "cannot read none\n"),
         ("slow none out cert delays -c 2", 3, "cannot read none\n"),
-        ("", 2, "usage: no such command\n"),
-        ("port 0 2 one", 2, "usage: no such command\n"),
-        ("part 2 2 one", 2, "usage: words of part\n"),
-        ("slow -c 2 net out cert delays", 2, "usage: words of slow\n"),
-        ("slow net out cert delays -c 0", 2, "usage: words of slow\n"),
-        (
-            "slow net out cert delays -c 17",
-            2,
-            "usage: words of slow\n",
-        ),
-        ("slow net out out delays -c 2", 2, "usage: words of slow\n"),
     ] {
         assert_run(&rt, &mut store, words, status, text);
         assert!(rt; store.file("out").is_none(), "{words}");

@@ -1,10 +1,10 @@
 -- The command that words say.
-use Rattle.std.specs.Prelude.{ℕ, ◌<◌, ◌≤◌, ◌≡◌, ⊤, Bool, ◌&&◌, nat_le, nat_lt, List, [], ◌∷◌, length, map, Option, Result, Ok, Err, if◌then◌else◌, unwrap_or, String, codes}
+use Rattle.std.specs.Prelude.{ℕ, ◌<◌, ◌≤◌, ◌≡◌, ⊤, Bool, true, false, ◌&&◌, nat_le, nat_lt, List, [], ◌∷◌, length, map, Option, Result, Ok, Err, if◌then◌else◌, unwrap_or, is_some, IfSome, String, codes}
 use Rattle.std.specs.String.{string_bytes}
 use Rattle.std.specs.Str.{bytes_eq}
 use Rattle.std.specs.Option.{ok_or, option_map_or}
 use Rattle.std.specs.declared.alloc.Global.{Global}
-use Rattle.clap.specs.Words.{Kinds, Row, all_of, fault_of, first_of, matches_of}
+use Rattle.clap.specs.Words.{Kinds, Row, Rule, all_of, fault_of, first_of, matches_of}
 use Rattle.cs_words.specs.declared.command.Command.{Command}
 use Rattle.cs_words.specs.declared.command.Command.TheVariants.{Slow, Sim, SimContext, Mix, Part, Upgrade, Help, Version}
 use Rattle.cs_words.specs.declared.read.WordError.{WordError}
@@ -25,7 +25,7 @@ follow (Err error) next = Err error
 
 -- ---- what the matches of a command's words say, by the names in its form
 
--- the text of a name; where the words are taken, a name that is required has one
+-- the text of a name; where the form takes the words, a name that is required has one (`AreNamed`)
 abbrev pub text_at : List Row → List ℕ → List ℕ
 text_at rows name = unwrap_or (first_of name rows) []
 
@@ -99,6 +99,21 @@ said_of verb.Help rows = Ok Help
 said_of verb.Version rows = Ok Version
 
 -- ---- all words
+
+-- each name that is required has a text in the matches
+abbrev pub HasText : Bool → List ℕ → List Row → Type 0
+HasText true name rows = is_some (first_of name rows) ≡ true
+HasText false name rows = ⊤
+
+abbrev pub HasTexts : List Rule → List Row → Type 0
+HasTexts [] rows = ⊤
+HasTexts (rule ∷ rules) rows = HasText rule.required rule.id rows × HasTexts rules rows
+
+-- so it is in the matches of these words, by the form of the command that the first of them names
+unfoldable pub AreNamed : List (List ℕ) → Type 0
+AreNamed [] = ⊤
+AreNamed (name ∷ words) =
+    IfSome (verb_of name) (λ verb. HasTexts (form_of verb).top.rules (matches_of (form_of verb) (name ∷ words)))
 
 -- what is said where the form takes the words, of which it finds no fault, and else that it refuses the words of this name
 abbrev pub taken_by : Kinds → List ℕ → Result Command WordError → Result Command WordError

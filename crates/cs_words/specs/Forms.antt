@@ -5,6 +5,7 @@ use Rattle.std.specs.Option.{option_map}
 use Rattle.std.specs.Str.{bytes_eq}
 use Rattle.clap.specs.Lexer.{usize_max}
 use Rattle.clap.specs.Words.{App, Rule, new_app, new_rule, with_rule}
+use Rattle.clap.specs.declared.builder.action.ArgAction.TheVariants.{Set}
 use Rattle.cs_words.specs.declared.verb.Verb.{Verb}
 use Rattle.cs_words.specs.declared.verb.Verb.TheVariants.{Slow, Sim, SimContext, Mix, Part, Upgrade, Help, Version}
 
@@ -28,7 +29,7 @@ verb_of word = verb_among verbs word
 
 -- a name or a number in its place: it is required, and has one text
 abbrev pub named : List ℕ → Rule
-named name = record (new_rule name) { required = true }
+named name = record (new_rule name) { action = Some Set; required = true }
 
 -- any number of names at the end
 abbrev pub all_named : List ℕ → Rule

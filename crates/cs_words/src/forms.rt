@@ -4,7 +4,7 @@ ghost use Rattle.clap.specs.Words.{app_of, rule_of};
 ghost use Rattle.cs_words.specs.Forms.{all_named, form, form_of, mix_form, named, option, part_form, sim_context_form, sim_form, slow_form, upgrade_form};
 
 use crate::verb::Verb;
-use clap::{Arg, Command};
+use clap::{Arg, ArgAction, Command};
 use std::alloc::{AllocError, Global};
 
 /// The `clap` command of a first word.
@@ -79,7 +79,9 @@ fn named<'a>(alloc: Global, name: &'a str) -> Arg<'a>
     ensures rule { rule_of result ≡ named name.entry.now }
     ensures local { result.global ≡ false }
 {
-    Arg::new(alloc, name).required(true)
+    Arg::new(alloc, name)
+        .action(ArgAction::Set)
+        .required(true)
 }
 
 // Any number of names at the end.

@@ -1,7 +1,8 @@
 // Reads the words after the program's name.
-ghost use Rattle.std.specs.Prelude.{◌≡◌, ◌≢◌, ◌⊎◌, [], true, IfErr, IfOk};
-ghost use Rattle.clap.specs.Words.{app_of, fault_of, found_of, is_simple_and_free, matches_of, rows_of};
-ghost use Rattle.cs_words.specs.Commands.{texts, command_of, said_by, IsWithin, Reads};
+ghost use Rattle.std.specs.Prelude.{◌≡◌, ◌≢◌, ◌⊎◌, [], IfErr, IfOk};
+ghost use Rattle.clap.specs.Words.{fault_of, found_of, matches_of, rows_of};
+ghost use Rattle.cs_words.specs.Commands.{AreNamed, HasTexts, IsWithin, Reads, command_of, said_by, texts};
+ghost use Rattle.cs_words.specs.Forms.{form_of};
 ghost use Rattle.cs_words.specs.declared.read.WordError.TheVariants.{BadWords, NoMemory};
 
 use crate::command::Command;
@@ -47,6 +48,7 @@ impl From<AllocError> for WordError {
 pub fn read_words(alloc: Global, words: &[String]) -> Result<Command, WordError>
     ensures said { Reads (command_of (texts words.now)) result }
     ensures within { IfOk result IsWithin }
+    ensures named { IfOk result (λ _. AreNamed (texts words.now)) }
 {
     let [name, ..] = words else {
         return Err(WordError::NoCommand);
@@ -61,25 +63,26 @@ pub fn read_words(alloc: Global, words: &[String]) -> Result<Command, WordError>
 fn read_form(alloc: Global, verb: Verb, name: &str, words: &[String]) -> Result<Command, WordError>
     ensures said { Reads (said_by verb name.now (texts words.now)) result }
     ensures within { IfOk result IsWithin }
+    ensures named { IfOk result (λ _. HasTexts (form_of verb).top.rules (matches_of (form_of verb) (texts words.now))) }
 {
-    let form = form_of(alloc, verb)?;
-    let matches = matched(alloc, form, name, words)?;
+    let matches = matched(alloc, verb, name, words)?;
     said_of(alloc, verb, &matches)
 }
 
-// The matches of words that the form takes.
+// The matches of words that a form takes.
 fn matched<'a>(
     alloc: Global,
-    form: clap::Command<'a>,
+    verb: Verb,
     name: &str,
     words: &'a [String],
 ) -> Result<ArgMatches<'a>, WordError>
-    requires { is_simple_and_free (app_of form) ≡ true }
-    ensures ok { IfOk result (λ matches. (fault_of (app_of form.entry) (texts words.now) ≡ [])
-        × (rows_of (found_of matches) ≡ matches_of (app_of form.entry) (texts words.now))) }
+    ensures taken { IfOk result (λ _. fault_of (form_of verb) (texts words.now) ≡ []) }
+    ensures rows { IfOk result (λ matches. rows_of (found_of matches) ≡ matches_of (form_of verb) (texts words.now)) }
+    ensures named { IfOk result (λ matches. HasTexts (form_of verb).top.rules (rows_of (found_of matches))) }
     ensures err { IfErr result (λ e. (e ≡ NoMemory)
-        ⊎ ((e ≡ BadWords name.now) × (fault_of (app_of form.entry) (texts words.now) ≢ []))) }
+        ⊎ ((e ≡ BadWords name.now) × (fault_of (form_of verb) (texts words.now) ≢ []))) }
 {
+    let form = form_of(alloc, verb)?;
     match form.try_get_matches_from(words) {
         Ok(matches) => Ok(matches),
         Err(error) if error.kind() == ErrorKind::OutOfMemory => Err(WordError::NoMemory),

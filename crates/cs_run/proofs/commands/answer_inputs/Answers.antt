@@ -1,6 +1,6 @@
 use Rattle.std.proofs.Common.{subst}
 use Rattle.cs_words.specs.Commands.{IsWithin}
-use Rattle.cs_run.proofs.AnswerLemmas.{mix_answers, mix_counts, part_answers, sim_answers, sim_context_answers, slow_answers, upgrade_answers}
+use Rattle.cs_run.proofs.AnswerLemmas.{help_answers, mix_answers, mix_counts, part_answers, sim_answers, sim_context_answers, slow_answers, upgrade_answers, version_answers}
 use Rattle.cs_run.proofs.commands.answer_inputs.Goals as goal
 
 pub answer_mix-requires-clause-some : goal.answer_mix-requires-clause-some
@@ -42,3 +42,12 @@ returns-in-SimContext c =
     sim_context_answers c.args.command.now c.in-SimContext.words c.args.inputs.now c.bytes_of-in-SimContext.result.now
     c.bytes_of-in-SimContext-2.result.now c.bytes_of-in-SimContext-3.result.now c.answer_sim_context.result c.in-SimContext.is
     c.bytes_of-in-SimContext.ensures c.bytes_of-in-SimContext-2.ensures c.bytes_of-in-SimContext-3.ensures c.answer_sim_context.ensures
+
+pub returns-in-Help : goal.returns-in-Help
+returns-in-Help c =
+    help_answers c.args.command.now c.args.inputs.now c.help_text.result.now c.answer_own.result c.in-Help.is c.help_text.ensures c.answer_own.ensures
+
+pub returns-in-Version : goal.returns-in-Version
+returns-in-Version c =
+    version_answers c.args.command.now c.args.inputs.now c.version_text.result.now c.answer_own-in-Version.result c.in-Version.is c.version_text.ensures
+    c.answer_own-in-Version.ensures
