@@ -8,7 +8,8 @@ use Rattle.cs_words.specs.declared.verb.Verb.{Verb}
 abbrev label : Row → List ℕ × Verb
 label row = (row.0.now, row.1)
 
-same_verb : (found : Option Row) → option_map (λ row. row.1) found ≡ option_map (λ verb. verb.1) (option_map label found)
+same_verb : (found : Option Row) → option_map (λ row. row.1) found ≡ option_map (λ verb. verb.1)
+    (option_map label found)
 same_verb None = refl
 same_verb (Some row) = refl
 

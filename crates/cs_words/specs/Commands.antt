@@ -1,5 +1,5 @@
 -- The command that words say.
-use Rattle.std.specs.Prelude.{ℕ, ◌<◌, ◌≤◌, ◌≡◌, ⊤, Bool, true, false, ◌&&◌, nat_le, nat_lt, List, [], ◌∷◌, length, map, Option, Result, Ok, Err, if◌then◌else◌, unwrap_or, is_some, IfSome, String, codes}
+use Rattle.std.specs.Prelude.{ℕ, ◌<◌, ◌≤◌, ◌≡◌, ⊤, Bool, true, false, ◌&&◌, nat_le, nat_lt, List, [], ◌∷◌, length, map, Result, Ok, Err, if◌then◌else◌, unwrap_or, is_some, IfSome, String, codes}
 use Rattle.std.specs.String.{string_bytes}
 use Rattle.std.specs.Str.{bytes_eq}
 use Rattle.std.specs.Option.{ok_or, option_map_or}
@@ -112,10 +112,10 @@ HasTexts (rule ∷ rules) rows = HasText rule.required rule.id rows × HasTexts 
 -- so it is in the matches of these words, by the form of the command that the first of them names
 unfoldable pub AreNamed : List (List ℕ) → Type 0
 AreNamed [] = ⊤
-AreNamed (name ∷ words) =
-    IfSome (verb_of name) (λ verb. HasTexts (form_of verb).top.rules (matches_of (form_of verb) (name ∷ words)))
+AreNamed (name ∷ words) = IfSome (verb_of name)
+    (λ verb. HasTexts (form_of verb).top.rules (matches_of (form_of verb) (name ∷ words)))
 
--- what is said where the form takes the words, of which it finds no fault, and else that it refuses the words of this name
+-- what is said where the form finds no fault in the words; else that those behind this name are refused
 abbrev pub taken_by : Kinds → List ℕ → Result Command WordError → Result Command WordError
 taken_by [] name said = said
 taken_by (_ ∷ _) name said = Err (BadWords name)
@@ -128,7 +128,8 @@ said_by verb name words =
 -- the command of the words after the program's name, or why there is none; that is never want of memory
 abbrev pub command_of : List (List ℕ) → Result Command WordError
 command_of [] = Err NoCommand
-command_of (name ∷ words) = option_map_or (λ verb. said_by verb name (name ∷ words)) (verb_of name) (Err NoCommand)
+command_of (name ∷ words) =
+    option_map_or (λ verb. said_by verb name (name ∷ words)) (verb_of name) (Err NoCommand)
 
 -- what reading the words answers: just what they say, unless memory ran out
 abbrev pub Reads : {T : Type 0} → Result T WordError → Result T WordError → Type 0

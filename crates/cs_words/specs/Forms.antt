@@ -1,5 +1,5 @@
--- The commands by their first words, and the form of the words of each: a `clap` command, which takes the words or refuses
--- them. What it takes, and what matches it finds, is `clap`'s own definition.
+-- The commands by their first words, and the form of the words of each: a `clap` command, which takes the
+-- words or refuses them. What it takes, and what matches it finds, is `clap`'s own definition.
 use Rattle.std.specs.Prelude.{ℕ, true, List, [], ◌∷◌, Option, Some, find, fold, codes}
 use Rattle.std.specs.Option.{option_map}
 use Rattle.std.specs.Str.{bytes_eq}
@@ -33,7 +33,8 @@ named name = record (new_rule name) { action = Some Set; required = true }
 
 -- any number of names at the end
 abbrev pub all_named : List ℕ → Rule
-all_named name = record (new_rule name) { range = Some (record { start_inclusive = 0; end_inclusive = usize_max }) }
+all_named name =
+    record (new_rule name) { range = Some (record { start_inclusive = 0; end_inclusive = usize_max }) }
 
 -- an option that must be given, with one text behind its letter
 abbrev pub option : List ℕ → ℕ → Rule
@@ -56,7 +57,9 @@ sim_form = form (codes "sim") (named (codes "NET") ∷ named (codes "STIM") ∷ 
 
 abbrev pub sim_context_form : App
 sim_context_form = form (codes "sim-context") (
-    named (codes "NET") ∷ named (codes "STIM") ∷ named (codes "IMAGES") ∷ named (codes "K") ∷ named (codes "C") ∷ [])
+    named (codes "NET") ∷ named (codes "STIM") ∷ named (codes "IMAGES")
+    ∷ named (codes "K") ∷ named (codes "C")
+    ∷ [])
 
 abbrev pub mix_form : App
 mix_form = form (codes "mix") (named (codes "OUT") ∷ all_named (codes "STREAMS") ∷ [])

@@ -65,7 +65,8 @@ fn named_form<'a>(
     name: &'a str,
     places: &[&'a str],
 ) -> Result<Command<'a>, AllocError>
-    ensures { IfOk result (λ made. app_of made ≡ form name.entry.now (map (λ place. named place.now) places.now)) }
+    ensures { IfOk result (λ made.
+        app_of made ≡ form name.entry.now (map (λ place. named place.now) places.now)) }
 {
     let mut form = Command::new(alloc, name);
     for place in places {
@@ -79,9 +80,7 @@ fn named<'a>(alloc: Global, name: &'a str) -> Arg<'a>
     ensures rule { rule_of result ≡ named name.entry.now }
     ensures local { result.global ≡ false }
 {
-    Arg::new(alloc, name)
-        .action(ArgAction::Set)
-        .required(true)
+    Arg::new(alloc, name).action(ArgAction::Set).required(true)
 }
 
 // Any number of names at the end.

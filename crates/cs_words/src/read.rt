@@ -36,15 +36,19 @@ impl From<AllocError> for WordError {
     }
 }
 
-/// The command that the words say. The refusals come in this order, each exactly where no earlier one does:
-/// - `NoCommand` where there is no first word, or it names none of `slow`, `sim`, `sim-context`, `mix`, `part`, `upgrade`,
-///   `help` (or `--help` or `-h`) and `version` (or `--version` or `-V`);
-/// - `BadWords`, with the first word as it stands, where the `clap` command of the first word refuses the others: those of
-///   `slow` are `IN OUT CERT DELAYS -c C`, of `sim` `NET STIM`, of `sim-context` `NET STIM IMAGES K C`, of `mix` OUT and any
-///   number of streams, of `part` `K C FILE`, of `upgrade` `OLD NEW`, and `help` and `version` have none;
-/// - `BadNumber`, with the first such name in the form's order, where C (named `-c` for `slow`) is no number from 1 to 16, or K
-///   no number or, where C is one, not below it, or where `mix` has not 1 to 16 `streams`; a number is 1 to 20 decimal digits;
+/// The command that the words say. The refusals come in this order, each where no earlier one does:
+/// - `NoCommand` where there is no first word, or it names none of `slow`, `sim`, `sim-context`, `mix`,
+///   `part`, `upgrade`, `help` (or `--help` or `-h`) and `version` (or `--version` or `-V`);
+/// - `BadWords`, with the first word as it stands, where the `clap` command of the first word refuses the
+///   others: those of `slow` are `IN OUT CERT DELAYS -c C`, of `sim` `NET STIM`, of `sim-context`
+///   `NET STIM IMAGES K C`, of `mix` OUT and any number of streams, of `part` `K C FILE`, of `upgrade`
+///   `OLD NEW`, and `help` and `version` have none;
+/// - `BadNumber`, with the first such name in that order, where C (named `-c` for `slow`) is no number from 1
+///   to 16, where K is no number or, C being one, not below it, or where `mix` has not 1 to 16 `streams`; a
+///   number is 1 to 20 decimal digits;
 /// - `SameName` where OUT and CERT of `slow` are the same word.
+///
+/// In the words of a command each name has a text (`named`).
 pub fn read_words(alloc: Global, words: &[String]) -> Result<Command, WordError>
     ensures said { Reads (command_of (texts words.now)) result }
     ensures within { IfOk result IsWithin }
@@ -63,7 +67,8 @@ pub fn read_words(alloc: Global, words: &[String]) -> Result<Command, WordError>
 fn read_form(alloc: Global, verb: Verb, name: &str, words: &[String]) -> Result<Command, WordError>
     ensures said { Reads (said_by verb name.now (texts words.now)) result }
     ensures within { IfOk result IsWithin }
-    ensures named { IfOk result (λ _. HasTexts (form_of verb).top.rules (matches_of (form_of verb) (texts words.now))) }
+    ensures named { IfOk result (λ _.
+        HasTexts (form_of verb).top.rules (matches_of (form_of verb) (texts words.now))) }
 {
     let matches = matched(alloc, verb, name, words)?;
     said_of(alloc, verb, &matches)
@@ -77,8 +82,10 @@ fn matched<'a>(
     words: &'a [String],
 ) -> Result<ArgMatches<'a>, WordError>
     ensures taken { IfOk result (λ _. fault_of (form_of verb) (texts words.now) ≡ []) }
-    ensures rows { IfOk result (λ matches. rows_of (found_of matches) ≡ matches_of (form_of verb) (texts words.now)) }
-    ensures named { IfOk result (λ matches. HasTexts (form_of verb).top.rules (rows_of (found_of matches))) }
+    ensures rows { IfOk result (λ matches.
+        rows_of (found_of matches) ≡ matches_of (form_of verb) (texts words.now)) }
+    ensures named { IfOk result (λ matches.
+        HasTexts (form_of verb).top.rules (rows_of (found_of matches))) }
     ensures err { IfErr result (λ e. (e ≡ NoMemory)
         ⊎ ((e ≡ BadWords name.now) × (fault_of (form_of verb) (texts words.now) ≢ []))) }
 {

@@ -17,7 +17,11 @@ use std::alloc::{AllocError, Global};
 const MOST_STREAMS: usize = 16;
 
 /// The command that the matches of its form say.
-pub(crate) fn said_of(alloc: Global, verb: Verb, matches: &ArgMatches<'_>) -> Result<Command, WordError>
+pub(crate) fn said_of(
+    alloc: Global,
+    verb: Verb,
+    matches: &ArgMatches<'_>,
+) -> Result<Command, WordError>
     ensures said { Reads (said_of verb (rows_of (found_of matches.now))) result }
     ensures within { IfOk result IsWithin }
 {
@@ -137,7 +141,11 @@ fn text_at<'a>(matches: &ArgMatches<'a>, name: &str) -> &'a str
 
 // All texts of a name.
 #[tactic(auto, using(crate::proofs::MatchLemmas::every_text))]
-fn texts_at(alloc: Global, matches: &ArgMatches<'_>, name: &str) -> Result<Sequence<Text>, AllocError>
+fn texts_at(
+    alloc: Global,
+    matches: &ArgMatches<'_>,
+    name: &str,
+) -> Result<Sequence<Text>, AllocError>
     ensures { IfOk result (λ texts. texts ≡ texts_at (rows_of (found_of matches.now)) name.now) }
 {
     match matches.get_strs(name) {
