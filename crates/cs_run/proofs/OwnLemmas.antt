@@ -1,5 +1,5 @@
 -- `help` and `version`: what stands afterwards.
-use Rattle.std.proofs.Common.{◌≡◌, ◌∙◌, ◌⊎◌, ℕ, List, [], ap, inl, inr, subst, sym}
+use Rattle.std.proofs.Common.{◌≡◌, ℕ, List, [], subst, sym}
 use Rattle.cs_words.specs.declared.command.Command.{Command}
 use Rattle.cs_run.specs.declared.inputs.Input.{Input}
 use Rattle.cs_run.specs.declared.reply.Reply.{Reply}

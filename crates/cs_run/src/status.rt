@@ -49,7 +49,8 @@ pub fn status_of(fault: &Fault) -> Status
 {
     match fault {
         Fault::NoMemory => Status::NoMemory,
-        Fault::NoCommand | Fault::WordsOf(_) | Fault::NumberOf(_) | Fault::SameName => Status::Usage,
+        Fault::NoCommand | Fault::WordsOf(_) | Fault::NumberOf(_) | Fault::SameName =>
+            Status::Usage,
         Fault::CannotRead(_) => Status::ReadFault,
         Fault::CannotWrite(_) => Status::WriteFault,
         Fault::DocumentNotJson | Fault::DocumentShape(_) => Status::DocumentFault,
