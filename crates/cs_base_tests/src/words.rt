@@ -91,7 +91,7 @@ fn words_of_others(rt: HostRuntime) {
     assert!(rt; is_sim(read(&rt, alloc, "sim - stim")));
     assert!(rt; is_sim_context(read(&rt, alloc, "sim-context net stim images 0 1")));
     assert!(rt; is_upgrade(read(&rt, alloc, "upgrade a a")));
-    for line in ["help", "--help", "-h"] {
+    for line in ["help", "--help", "-h", "help --"] {
         assert!(rt;
             matches!(read(&rt, alloc, line), Ok(Command::Help)),
             "{line}"
