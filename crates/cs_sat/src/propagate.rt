@@ -8,7 +8,7 @@ ghost use Rattle.cs_sat.specs.Looks.{Asks};
 ghost use Rattle.cs_sat.specs.Visits.{IsVisit};
 
 use crate::look::{Status, look};
-use crate::store::{Store, Watch, clause_at};
+use crate::store::{Store, Watch, Watched, clause_at};
 use crate::trail::Trail;
 use cs_base::{Clause, Lit};
 use std::alloc::AllocError;
@@ -33,6 +33,7 @@ fn follow(
     status: Status,
     watch: Watch,
     next: Lit,
+    other: Lit,
 ) -> Result<Visit, AllocError>
     requires over { IsOver (base.now ++ store.old.lines) trail.old }
     requires asks { (clause : Lits) × (slice_get (base.now ++ store.old.lines) number ≡ Some clause)
@@ -45,7 +46,7 @@ fn follow(
     match status {
         Status::Satisfied => Ok(Visit::Stays),
         Status::Open(_) => {
-            store.rewatch(number, watch, next)?;
+            store.rewatch(number, watch, next, other)?;
             Ok(Visit::Moves)
         }
         Status::Unit(lit) => {
@@ -81,7 +82,28 @@ fn look_at(
         watch.one = place;
         next = lit_at(lits, place, lit);
     }
-    follow(trail, store, base, number, status, watch, next)
+    let other = lit_at(lits, watch.other, lit);
+    follow(trail, store, base, number, status, watch, next, other)
+}
+
+// Looks at a clause that is watched by a false literal, unless another literal of it is known to be true.
+fn look_past(
+    trail: &mut Trail,
+    store: &mut Store,
+    base: &[Clause],
+    watched: Watched,
+    lit: Lit,
+) -> Result<Visit, AllocError>
+    requires over { IsOver (base.now ++ store.old.lines) trail.old }
+    ensures over { IsOver (base.now ++ store.old.lines) trail.new }
+    ensures lines { store.new.lines ≡ store.old.lines }
+    ensures grows { Grows trail.old trail.new }
+    ensures conflict { IfOk result (IsVisit (base.now ++ store.old.lines) trail.new watched.number) }
+{
+    if trail.is_true(watched.other) {
+        return Ok(Visit::Stays);
+    }
+    look_at(trail, store, base, watched.number, lit)
 }
 
 // The literal at a place, or this one where there is none.
@@ -103,11 +125,11 @@ fn look_at_watched(
     ensures conflict { IfOk result (λ found. IfSome found (IsConflict (base.now ++ store.old.lines) trail.new)) }
 {
     for at in (0..store.watched_by(lit)).rev() {
-        if let Some(number) = store.watched_at(lit, at) {
-            match look_at(trail, store, base, number, lit)? {
+        if let Some(watched) = store.watched_at(lit, at) {
+            match look_past(trail, store, base, watched, lit)? {
                 Visit::Stays => {}
                 Visit::Moves => store.forget(lit, at),
-                Visit::Conflict => return Ok(Some(number)),
+                Visit::Conflict => return Ok(Some(watched.number)),
             }
         }
     }
