@@ -37,9 +37,11 @@ row_of_sinks : (tap : Tap → Bool) → IsOfSinks (row_part tap)
 row_of_sinks tap = record {
   host = refl;
   input = refl;
-  constant = λ b. refl;
-  gate = λ kind pins origin. refl;
-  read = λ memory port pins. refl;
+  ports = record {
+    constant = λ b. refl;
+    gate = λ kind pins origin. refl;
+    read = λ memory port pins. refl;
+  };
 }
 
 row_of_outputs : (tap : Tap → Bool) (signals : List Signal)
@@ -90,9 +92,11 @@ given_of_sinks : (i : ℕ) (m : GraphMemory) (tap : Tap → Bool) → IsOfSinks 
 given_of_sinks i m tap = record {
   host = refl;
   input = refl;
-  constant = λ b. refl;
-  gate = λ kind pins origin. refl;
-  read = λ memory port pins. refl;
+  ports = record {
+    constant = λ b. refl;
+    gate = λ kind pins origin. refl;
+    read = λ memory port pins. refl;
+  };
 }
 
 none_given : (i : ℕ) (m : GraphMemory) (tap : Tap → Bool) (signals : List Signal)

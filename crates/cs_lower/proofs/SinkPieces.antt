@@ -45,17 +45,20 @@ class_write_pieces Unknown c = []
 abbrev pub write_pieces : Placed → List Piece
 write_pieces c = class_write_pieces c.cell.class c
 
--- ---- what is made of vertices without outputs alone
+-- ---- what is made of ports and write ports alone, and of vertices without outputs alone
 
-pub record IsOfSinks {B : Type 0} (made : Piece → List B) : Type 0 where
-  pub host : made (piece Host []) ≡ []
-  pub input : made (piece Input []) ≡ []
+pub record IsOfPorts {B : Type 0} (made : Piece → List B) : Type 0 where
   pub constant : (b : Bool) → made (piece (Constant b) []) ≡ []
   pub gate : (kind : Kind) (pins : List Tap) (origin : List ℕ)
       → made (record { kind = Gate kind; pins = pins; origin = origin }) ≡ []
   pub read : (memory port : ℕ) (pins : List Tap) → made (piece (Read memory port) pins) ≡ []
 
-module _ {B : Type 0} (made : Piece → List B) (sinks : IsOfSinks made) where
+pub record IsOfSinks {B : Type 0} (made : Piece → List B) : Type 0 where
+  pub host : made (piece Host []) ≡ []
+  pub input : made (piece Input []) ≡ []
+  pub ports : IsOfPorts made
+
+module _ {B : Type 0} (made : Piece → List B) (ports : IsOfPorts made) where
   -- nothing is made of these
   abbrev IsNone : List Piece → Type 0
   IsNone pieces = flat_map made pieces ≡ []
@@ -91,7 +94,7 @@ module _ {B : Type 0} (made : Piece → List B) (sinks : IsOfSinks made) where
 
       by : (out : Bool) → IsNone (if out then c else with_piece c next).pieces
       by true = none
-      by false = none_append c.pieces (next ∷ []) none (none_of_one next (sinks.gate Mux next.pins []))
+      by false = none_append c.pieces (next ∷ []) none (none_of_one next (ports.gate Mux next.pins []))
 
   none_reset : (net : Net) (reset : Option ResetKind) (r : Signal) (c : Chain) → IsNone c.pieces
       → IsNone (with_reset net reset r c).pieces
@@ -103,7 +106,7 @@ module _ {B : Type 0} (made : Piece → List B) (sinks : IsOfSinks made) where
 
       by : (out : Bool) → IsNone (if out then c else with_piece c next).pieces
       by true = none
-      by false = none_append c.pieces (next ∷ []) none (none_of_one next (sinks.gate Mux next.pins []))
+      by false = none_append c.pieces (next ∷ []) none (none_of_one next (ports.gate Mux next.pins []))
 
   none_chain : (net : Net) (n : ℕ) (q : Signal × Bool) (r : StateElement) (d : Tap)
       → IsNone (register_chain net n q r d).pieces
@@ -143,7 +146,7 @@ module _ {B : Type 0} (made : Piece → List B) (sinks : IsOfSinks made) where
       → IsNone (read_parts net memory cell shape v read).pieces
   none_read net memory cell shape v read =
       none_append (port ∷ []) (data_parts net cell shape read v).pieces
-      (none_of_one port (sinks.read memory read.0 port.pins)) (none_data net cell shape read v)
+      (none_of_one port (ports.read memory read.0 port.pins)) (none_data net cell shape read v)
     where
       port : Piece
       port = piece (Read memory read.0) (map of_signal (port_part cell (codes "RD_ADDR") shape.abits read.0))
@@ -162,7 +165,7 @@ module _ {B : Type 0} (made : Piece → List B) (sinks : IsOfSinks made) where
 
   made_of_class : (net : Net) (n : ℕ) (class : Class) (c : Placed)
       → flat_map made (class_parts net n class c).pieces ≡ flat_map made (class_write_pieces class c)
-  made_of_class net n (GateClass kind) c = ap (λ a. a ++ []) (sinks.gate kind _ c.cell.name)
+  made_of_class net n (GateClass kind) c = ap (λ a. a ++ []) (ports.gate kind _ c.cell.name)
   made_of_class net n (Register kind) c = none_chain net n (signal_of c.cell (codes "Q"), false) (register_of c.cell kind)
       (of_signal (signal_of c.cell (codes "D")))
   made_of_class net n Memory c = made_of_memory net n c.memory c.cell c.shape
@@ -178,42 +181,30 @@ module _ {B : Type 0} (made : Piece → List B) (sinks : IsOfSinks made) where
 
   -- ---- all others
 
-  none_of_inputs : (signals : List Signal) → IsNone (map (λ s. piece Input []) signals)
-  none_of_inputs [] = refl
-  none_of_inputs (s ∷ signals) = ap₂ (λ a b. a ++ b) sinks.input (none_of_inputs signals)
-
   none_of_buffers : (bits : List ℕ) → IsNone (map buffer bits)
   none_of_buffers [] = refl
-  none_of_buffers (b ∷ bits) = ap₂ (λ a b. a ++ b) (sinks.gate Buf (buffer b).pins []) (none_of_buffers bits)
+  none_of_buffers (b ∷ bits) = ap₂ (λ a b. a ++ b) (ports.gate Buf (buffer b).pins []) (none_of_buffers bits)
 
   none_of_constants : (low high : Bool)
       → IsNone ((if low then piece (Constant false) [] ∷ [] else []) ++ (if high then piece (Constant true) [] ∷ [] else []))
-  none_of_constants true true = ap₂ (λ a b. a ++ (b ++ [])) (sinks.constant false) (sinks.constant true)
-  none_of_constants true false = ap (λ a. a ++ []) (sinks.constant false)
-  none_of_constants false true = ap (λ a. a ++ []) (sinks.constant true)
+  none_of_constants true true = ap₂ (λ a b. a ++ (b ++ [])) (ports.constant false) (ports.constant true)
+  none_of_constants true false = ap (λ a. a ++ []) (ports.constant false)
+  none_of_constants false true = ap (λ a. a ++ []) (ports.constant true)
   none_of_constants false false = refl
 
-  none_of_input_parts : (net : Net) → IsNone (input_parts net).pieces
-  none_of_input_parts net = ap₂ (λ a b. a ++ b) sinks.host (none_of_inputs (data_inputs net))
-
-  made_of_ports : (net : Net) → flat_map made (port_parts net).pieces ≡ flat_map made (output_parts net).pieces
-  made_of_ports net =
-      flat_map-append made (input_parts net).pieces (output_parts net).pieces
-      ∙ ap (λ a. a ++ flat_map made (output_parts net).pieces) (none_of_input_parts net)
-
   made_of_parts : (net : Net) → flat_map made (parts_of net).pieces
-      ≡ flat_map made (output_parts net).pieces ++ flat_map (λ c. flat_map made (write_pieces c)) (placed_cells net)
+      ≡ flat_map made (port_parts net).pieces ++ flat_map (λ c. flat_map made (write_pieces c)) (placed_cells net)
   unfolding parts_of
   made_of_parts net =
       flat_map-append made (port_parts net).pieces
       (in_turn (cell_parts net) (length (port_parts net).pieces) (placed_cells net)).pieces
-      ∙ ap₂ (λ a b. a ++ b) (made_of_ports net)
+      ∙ ap (λ b. flat_map made (port_parts net).pieces ++ b)
       (made_of_cells net (length (port_parts net).pieces) (placed_cells net))
 
-  -- all of it is made of the data outputs, and then of the write ports
-  pub made_of_sinks : (net : Net) → flat_map made (pieces_of net ++ constants net)
-      ≡ flat_map made (output_parts net).pieces ++ flat_map (λ c. flat_map made (write_pieces c)) (placed_cells net)
-  made_of_sinks net =
+  -- all of it is made of the ports, and then of the write ports
+  pub made_of_ports : (net : Net) → flat_map made (pieces_of net ++ constants net)
+      ≡ flat_map made (port_parts net).pieces ++ flat_map (λ c. flat_map made (write_pieces c)) (placed_cells net)
+  made_of_ports net =
       flat_map-append made (pieces_of net) (constants net)
       ∙ ap₂ (λ a b. a ++ b) (flat_map-append made (parts_of net).pieces (map buffer (wiring_of net).rings))
       (none_of_constants (is_used net false) (is_used net true))
@@ -221,3 +212,18 @@ module _ {B : Type 0} (made : Piece → List B) (sinks : IsOfSinks made) where
       ∙ ap (λ b. flat_map made (parts_of net).pieces ++ b) (none_of_buffers (wiring_of net).rings)
       ∙ append-nil (flat_map made (parts_of net).pieces)
       ∙ made_of_parts net
+
+module _ {B : Type 0} (made : Piece → List B) (sinks : IsOfSinks made) where
+  none_of_inputs : (signals : List Signal) → flat_map made (map (λ s. piece Input []) signals) ≡ []
+  none_of_inputs [] = refl
+  none_of_inputs (s ∷ signals) = ap₂ (λ a b. a ++ b) sinks.input (none_of_inputs signals)
+
+  -- all of it is made of the data outputs, and then of the write ports
+  pub made_of_sinks : (net : Net) → flat_map made (pieces_of net ++ constants net)
+      ≡ flat_map made (output_parts net).pieces ++ flat_map (λ c. flat_map made (write_pieces c)) (placed_cells net)
+  made_of_sinks net =
+      made_of_ports made sinks.ports net
+      ∙ ap (λ a. a ++ flat_map (λ c. flat_map made (write_pieces c)) (placed_cells net))
+      (flat_map-append made (input_parts net).pieces (output_parts net).pieces
+      ∙ ap (λ a. a ++ flat_map made (output_parts net).pieces)
+      (ap₂ (λ a b. a ++ b) sinks.host (none_of_inputs (data_inputs net))))

@@ -59,8 +59,3 @@ pub(crate) const STICKY: &str = r#"{"modules":{"top":{
 "y":{"direction":"output","bits":[4,"1","x",9]}},
 "cells":{"g":{"type":"$_OR_","connections":{"A":[3],"B":[4],"Y":[5]}},
 "r":{"type":"$_DFF_N_","connections":{"C":[2],"D":[5],"Q":[4]}}}}}}"#;
-
-/// A register from port d to port q.
-pub(crate) const REGISTER: &str = r#"{"modules":{"top":{
-"ports":{"clk":{"direction":"input","bits":[2]},"d":{"direction":"input","bits":[3]},"q":{"direction":"output","bits":[4]}},
-"cells":{"r":{"type":"$_DFF_P_","connections":{"C":[2],"D":[3],"Q":[4]}}}}}}"#;

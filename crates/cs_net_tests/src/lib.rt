@@ -11,5 +11,3 @@ mod documents;
 mod lines;
 #[cfg(test)]
 mod memories;
-#[cfg(test)]
-mod registers;

@@ -1,7 +1,7 @@
 -- The line of each fault.
 use Rattle.std.specs.Prelude.{ℕ, List, [], ◌∷◌, ◌++◌, codes, decimal}
 use Rattle.cs_report.specs.declared.fault.Fault.{Fault}
-use Rattle.cs_report.specs.declared.fault.Fault.TheVariants.{NoMemory, NoCommand, WordsOf, NumberOf, SameName, CannotRead, CannotWrite, DocumentNotJson, DocumentShape, Refused, Limit, FileTooLong, StimulusWidth, StimulusCharacter, StimulusUneven, CertificateNotJson, CertificateShape, ImagesNotJson, ImagesShape, ImagesName, ImagesCount, NotBuilt, NotBuiltCell}
+use Rattle.cs_report.specs.declared.fault.Fault.TheVariants.{NoMemory, NoCommand, WordsOf, NumberOf, SameName, CannotRead, CannotWrite, DocumentNotJson, DocumentShape, Refused, Limit, FileTooLong, StimulusWidth, StimulusCharacter, StimulusUneven, CertificateNotJson, CertificateShape, ImagesNotJson, ImagesShape, ImagesName, ImagesCount}
 use Rattle.cs_report.specs.Limits.{limit_words}
 use Rattle.cs_report.specs.Refused.{refused_words}
 use Rattle.cs_report.specs.Words.{quoted}
@@ -48,8 +48,6 @@ fault_words ImagesNotJson = codes "images: not json"
 fault_words (ImagesShape place) = codes "images: bad shape at " ++ place.path
 fault_words (ImagesName name) = codes "images: no memory " ++ quoted name
 fault_words (ImagesCount name found) = images_count name found
-fault_words NotBuilt = codes "not built"
-fault_words (NotBuiltCell name) = codes "not built: " ++ quoted name
 
 -- the words and a newline
 abbrev pub fault_line : Fault → List ℕ

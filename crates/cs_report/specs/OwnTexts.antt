@@ -5,7 +5,7 @@ abbrev pub help_lines : List (List ℕ)
 help_lines =
     codes "cslow: one Yosys netlist for C interleaved threads"
     ∷ codes "usage:"
-    ∷ codes "  cslow slow IN OUT CERT DELAYS -c C"
+    ∷ codes "  cslow slow IN OUT CERT DELAYS -c C [--images IMAGES]"
     ∷ codes "  cslow sim NET STIM"
     ∷ codes "  cslow sim-context NET STIM IMAGES K C"
     ∷ codes "  cslow mix OUT STREAMS"

@@ -55,10 +55,6 @@ pub enum Fault {
     ImagesName(Text),
     /// An images file has another number of images of this memory than there are contexts.
     ImagesCount { name: Text, found: u64 },
-    /// The netlist is in no form that is handled yet.
-    NotBuilt,
-    /// This cell of the netlist isn't handled yet.
-    NotBuiltCell(Text),
 }
 
 fn counted_words(what: Counted) -> &'static str
@@ -152,8 +148,6 @@ fn fault_words(alloc: Global, fault: &Fault) -> Result<Text, AllocError>
         }
         Fault::ImagesName(name) => quoted_after(alloc, "images: no memory ", name.as_str()),
         Fault::ImagesCount { name, found } => images_count(alloc, name.as_str(), *found),
-        Fault::NotBuilt => Text::from_str(alloc, "not built"),
-        Fault::NotBuiltCell(name) => quoted_after(alloc, "not built: ", name.as_str()),
     }
 }
 

@@ -9,7 +9,7 @@ pub fn help_text() -> &'static [u8]
 {
     b"cslow: one Yosys netlist for C interleaved threads
 usage:
-  cslow slow IN OUT CERT DELAYS -c C
+  cslow slow IN OUT CERT DELAYS -c C [--images IMAGES]
   cslow sim NET STIM
   cslow sim-context NET STIM IMAGES K C
   cslow mix OUT STREAMS

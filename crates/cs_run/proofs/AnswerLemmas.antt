@@ -1,6 +1,6 @@
 -- From the answers of each command's function to those of all commands.
 use Rattle.std.proofs.Common.{◌≡◌, ◌≤◌, ◌∙◌, ℕ, List, [], ◌∷◌, ap, arith, length, refl, subst, sym}
-use Rattle.std.specs.Prelude.{Err, Ok, Result, ⊤}
+use Rattle.std.specs.Prelude.{Err, Ok, Option, Result, ⊤}
 use Rattle.cs_report.specs.declared.fault.Fault.{Fault}
 use Rattle.cs_report.specs.OwnTexts.{help_text, version_text}
 use Rattle.cs_words.specs.declared.command.Command.{Command}
@@ -18,7 +18,7 @@ use Rattle.cs_run.specs.declared.inputs.Role.TheVariants.{File, Images, In, Net,
 use Rattle.cs_run.specs.declared.reply.Reply.{Reply}
 use Rattle.cs_run.specs.declared.stop.Stop.{Stop}
 use Rattle.cs_run.specs.Commands.{Makes, MakesRight, Refuses, reads_of}
-use Rattle.cs_run.specs.Inputs.{all_bytes, bytes_of, files_of}
+use Rattle.cs_run.specs.Inputs.{all_bytes, bytes_of, files_of, found_bytes}
 use Rattle.cs_run.specs.Mix.{AnswersMix}
 use Rattle.cs_run.specs.Part.{AnswersPart}
 use Rattle.cs_run.specs.Reasons.{Answers}
@@ -41,10 +41,13 @@ plain : (IsRight : Reply → Type 0) (P : Fault → Type 0) (result : Result Rep
 plain IsRight P (Ok reply) right = (right, tt)
 plain IsRight P (Err stop) stops = stops
 
-pub slow_answers : (command : Command) (words : SlowWords) (inputs : List Input) (bytes : List ℕ) (result : Result Reply Stop) → command ≡ Slow words →
-    bytes ≡ bytes_of In inputs → AnswersSlow words bytes result → AnswersInputs command inputs result
-slow_answers command words inputs bytes result is read answers =
-    of_variant command (Slow words) inputs result is (subst (λ b. AnswersSlow words b result) read answers)
+pub slow_answers : (command : Command) (words : SlowWords) (inputs : List Input) (bytes : List ℕ) (images : Option (List ℕ))
+    (result : Result Reply Stop) → command ≡ Slow words → bytes ≡ bytes_of In inputs → images ≡ found_bytes Images inputs →
+    AnswersSlow words bytes images result → AnswersInputs command inputs result
+slow_answers command words inputs bytes images result is read also answers =
+    of_variant command (Slow words) inputs result is
+    (subst (λ b. AnswersSlow words b (found_bytes Images inputs) result) read
+    (subst (λ i. AnswersSlow words bytes i result) also answers))
 
 pub sim_answers : (command : Command) (words : SimWords) (inputs : List Input) (bytes stim : List ℕ) (result : Result Reply Stop) → command ≡ Sim words →
     bytes ≡ bytes_of Net inputs → stim ≡ bytes_of Stim inputs → AnswersSim bytes stim result → AnswersInputs command inputs result

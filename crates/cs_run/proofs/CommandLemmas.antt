@@ -10,7 +10,7 @@ use Rattle.cs_run.specs.declared.inputs.Role.TheVariants.{File, Images, In, Net,
 use Rattle.cs_run.specs.declared.reply.Reply.{Reply}
 use Rattle.cs_run.specs.declared.status.Status.TheVariants.{Done}
 use Rattle.cs_run.specs.Commands.{HasInputs, HasReason, Makes, Refuses, reads_of, writes_of}
-use Rattle.cs_run.specs.Inputs.{all_bytes, bytes_of}
+use Rattle.cs_run.specs.Inputs.{all_bytes, bytes_of, found_bytes}
 use Rattle.cs_run.specs.Reasons.{Reason}
 use Rattle.cs_run.specs.Statuses.{status_of}
 use Rattle.cs_run.proofs.InputLemmas.{none_long, one_inputs}
@@ -38,7 +38,7 @@ makes_done Version inputs reply makes = ap (λ (r : Reply). r.status) makes
 
 -- a reply writes only files that the command names to be written
 pub makes_names : (command : Command) (inputs : List Input) (reply : Reply) → Makes command inputs reply → AreNamed (writes_of command) reply.writes
-makes_names (Slow words) inputs reply makes = slow_names words (bytes_of In inputs) reply makes
+makes_names (Slow words) inputs reply makes = slow_names words (bytes_of In inputs) (found_bytes Images inputs) reply makes
 makes_names (Sim words) inputs reply makes = sim_names (bytes_of Net inputs) (bytes_of Stim inputs) reply makes
 makes_names (SimContext words) inputs reply makes =
     sim_context_names words (bytes_of Net inputs) (bytes_of Stim inputs) (bytes_of Images inputs) reply makes
@@ -49,7 +49,7 @@ makes_names Help inputs reply makes = own_names help_text reply makes
 makes_names Version inputs reply makes = own_names version_text reply makes
 
 apart : (command : Command) (inputs : List Input) (reply : Reply) (fault : Fault) → Makes command inputs reply → Refuses command inputs fault → ⊥
-apart (Slow words) inputs reply fault makes refuses = slow_apart words (bytes_of In inputs) reply fault makes refuses
+apart (Slow words) inputs reply fault makes refuses = slow_apart words (bytes_of In inputs) (found_bytes Images inputs) reply fault makes refuses
 apart (Sim words) inputs reply fault makes refuses = sim_apart (bytes_of Net inputs) (bytes_of Stim inputs) reply fault makes refuses
 apart (SimContext words) inputs reply fault makes refuses =
     sim_context_apart words (bytes_of Net inputs) (bytes_of Stim inputs) (bytes_of Images inputs) reply fault makes refuses
@@ -61,7 +61,7 @@ apart Version inputs reply fault makes refuses = refuses
 
 inputs_status : (command : Command) (inputs : List Input) (a b : Reason) → Refuses command inputs a.fault → Refuses command inputs b.fault →
     status_of a.fault ≡ status_of b.fault
-inputs_status (Slow words) inputs a b h k = slow_status (bytes_of In inputs) a b h k
+inputs_status (Slow words) inputs a b h k = slow_status words.contexts (bytes_of In inputs) (found_bytes Images inputs) a b h k
 inputs_status (Sim words) inputs a b h k = sim_status (bytes_of Net inputs) (bytes_of Stim inputs) a b h k
 inputs_status (SimContext words) inputs a b h k =
     sim_context_status words (bytes_of Net inputs) (bytes_of Stim inputs) (bytes_of Images inputs) a b h k

@@ -69,10 +69,10 @@ promises run status result is ran =
       others = others run status ran;
       slow_done = λ slow says to. slow_done slow run.old run.new (done run status (Slow slow) ran says (at Done to));
       slow_unwritten = λ slow says to. slow_unwritten slow run.old run.new (undone run status (Slow slow) ran says (at WriteFault to));
-      slow_output = λ to slow bytes netlist input built.
-          slow_output run slow bytes netlist input (slow_done slow run.old run.new (done run status (Slow slow) ran input.says (at Done to))) built;
-      slow_isolates = λ to slow bytes netlist input holds.
-          slow_isolates run slow bytes netlist input (slow_done slow run.old run.new (done run status (Slow slow) ran input.says (at Done to))) holds;
+      slow_output = λ to slow bytes netlist images input built.
+          slow_output run slow bytes netlist images input (slow_done slow run.old run.new (done run status (Slow slow) ran input.says (at Done to))) built;
+      slow_isolates = λ to slow bytes netlist images input holds.
+          slow_isolates run slow bytes netlist images input (slow_done slow run.old run.new (done run status (Slow slow) ran input.says (at Done to))) holds;
       sim_responded = λ sim says to. sim_responded sim run.old run.new (done run status (Sim sim) ran says (at Done to));
       sim_unput = λ sim says to. sim_unput sim run.old run.new (undone run status (Sim sim) ran says (at WriteFault to));
       context_responded = λ sim says to. context_responded sim run.old run.new (done run status (SimContext sim) ran says (at Done to));

@@ -1,5 +1,6 @@
 pub mod BytesLemmas
 pub mod StopLemmas
+pub mod StartLemmas
 pub mod ReasonLemmas
 pub mod InputLemmas
 pub mod RowLemmas

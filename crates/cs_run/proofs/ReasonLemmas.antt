@@ -3,8 +3,6 @@ use Rattle.std.proofs.Common.{◌≡◌, ◌∙◌, ℕ, List, Option, None, Som
 use Rattle.std.specs.Prelude.{IsTrue}
 use Rattle.cs_json.specs.declared.document.Document.{Document}
 use Rattle.cs_json.specs.Shape.{Says, document}
-use Rattle.cs_multiply.specs.declared.error.MultiplyError.{MultiplyError}
-use Rattle.cs_multiply.specs.declared.error.MultiplyError.TheVariants as multiply
 use Rattle.cs_conditions.specs.declared.error.NetError.{NetError}
 use Rattle.cs_conditions.specs.declared.error.NetError.TheVariants as net
 use Rattle.cs_net.specs.Accept.{IsAccepted, Refuses, is_limit}
@@ -14,9 +12,9 @@ use Rattle.cs_report.specs.declared.fault.Fault.{Fault}
 use Rattle.cs_stream.specs.declared.error.StimError.{StimError}
 use Rattle.cs_stream.specs.declared.error.StimError.TheVariants as stim
 use Rattle.cs_run.specs.declared.status.Status.{Status}
-use Rattle.cs_run.specs.declared.status.Status.TheVariants.{Limit, NetlistFault, NotBuilt, StimulusFault}
+use Rattle.cs_run.specs.declared.status.Status.TheVariants.{Limit, NetlistFault, StimulusFault}
 use Rattle.cs_run.specs.Bytes.{IsNetlistOf, SaysNoDocument, SaysNoNetlist, document_fault}
-use Rattle.cs_run.specs.Reasons.{HasNoRows, Reason, built_fault, rows_fault}
+use Rattle.cs_run.specs.Reasons.{HasNoRows, Reason, rows_fault}
 use Rattle.cs_run.specs.Statuses.{is_of_files, net_status, status_of}
 
 -- ---- netlists
@@ -61,7 +59,7 @@ netlist_status bytes a b (inr h) (inr k) =
     ∙ ap (λ t. cond t Limit NetlistFault) (one_refusal h.doc None h.none.error k.none.error h.none.refuses other)
     ∙ sym (by_fault b _ _ k.none.is (net_status_is k.none.error))
 
--- ---- rows, and netlists that aren't multiplied
+-- ---- rows
 
 pub has_rows : (found : Option StimError) (fault : Fault) → found ≡ None → HasNoRows found fault → ⊥
 has_rows found fault none h = let other : None ≡ Some h.error = sym none ∙ h.has in absurd (cc)
@@ -74,11 +72,3 @@ rows_status_is (stim.Uneven stream) h = refl
 
 pub rows_status : (found : Option StimError) (reason : Reason) → HasNoRows found reason.fault → status_of reason.fault ≡ StimulusFault
 rows_status found reason h = by_fault reason _ _ h.is (rows_status_is h.error)
-
-built_status_is : (error : MultiplyError) → IsTrue (is_of_files (status_of (built_fault error))) → status_of (built_fault error) ≡ NotBuilt
-built_status_is multiply.NoMemory h = absurd (cc)
-built_status_is (multiply.Cell name) h = refl
-built_status_is multiply.PortBits h = refl
-
-pub built_status : (error : MultiplyError) (reason : Reason) → reason.fault ≡ built_fault error → status_of reason.fault ≡ NotBuilt
-built_status error reason is = by_fault reason _ _ is (built_status_is error)

@@ -1,10 +1,6 @@
--- `sim-context`: why it stops, one answer, and what stands afterwards.
-use Rattle.std.proofs.Common.{◌≡◌, ◌≢◌, ◌∙◌, ℕ, List, [], None, Some, ap, inl, inr, refl, subst, sym}
-use Rattle.std.specs.Prelude.{IsTrue}
-use Rattle.cs_images.specs.declared.error.ImageError.{ImageError}
-use Rattle.cs_images.specs.declared.error.ImageError.TheVariants as image
-use Rattle.cs_images.specs.Said.{HasOtherCount, NamesNoMemory, NoJson, RefusedAt, Says, images_in}
-use Rattle.cs_json.specs.declared.document.Place.{Place}
+-- `sim-context`: one answer, and what stands afterwards.
+use Rattle.std.proofs.Common.{◌≡◌, ◌∙◌, ℕ, List, [], None, Some, ap, inl, inr, refl, subst, sym}
+use Rattle.cs_images.specs.Said.{Says}
 use Rattle.cs_net.specs.Contexts.{of_context}
 use Rattle.cs_net.specs.Netlist.{Net}
 use Rattle.cs_report.specs.declared.fault.Fault.{Fault}
@@ -12,44 +8,19 @@ use Rattle.cs_words.specs.declared.command.Command.TheVariants.{SimContext}
 use Rattle.cs_words.specs.declared.command.SimContextWords.{SimContextWords}
 use Rattle.cs_run.specs.declared.inputs.Role.TheVariants.{Images as ImagesRole, Net as NetRole, Stim}
 use Rattle.cs_run.specs.declared.reply.Reply.{Reply}
-use Rattle.cs_run.specs.declared.status.Status.TheVariants.{NoMemory}
-use Rattle.cs_run.specs.declared.stop.Stop.{Stop}
 use Rattle.cs_run.specs.Inputs.{bytes_of}
-use Rattle.cs_run.specs.Reasons.{Reason, StopsAt, StopsFor}
+use Rattle.cs_run.specs.Reasons.{Reason}
 use Rattle.cs_run.specs.Runs.{HasAnswer}
 use Rattle.cs_run.specs.Sim.{HasNoStimulus}
-use Rattle.cs_run.specs.SimContext.{CouldNotRespondContext, HasRespondedContext, IsOfContext, MakesSimContext, PutsContext, RefusesContext, RefusesSimContext, RespondsContext, SaysNoImages, images_fault, images_refusal, sim_context_reads}
-use Rattle.cs_run.specs.Statuses.{is_of_files, status_of}
+use Rattle.cs_run.specs.SimContext.{CouldNotRespondContext, HasRespondedContext, IsOfContext, MakesSimContext, PutsContext, RefusesContext, RefusesSimContext, RespondsContext, sim_context_reads}
+use Rattle.cs_run.specs.Starts.{SaysNoImages, images_refusal}
+use Rattle.cs_run.specs.Statuses.{status_of}
 use Rattle.cs_run.specs.Worlds.{World}
 use Rattle.cs_run.proofs.Ends.{Finished, Unfinished}
 use Rattle.cs_run.proofs.InputLemmas.{at_role}
 use Rattle.cs_run.proofs.ReasonLemmas.{netlist_status, one_net, rows_status, sound}
 use Rattle.cs_run.proofs.SimLemmas.{answer_apart}
-use Rattle.cs_run.proofs.StopLemmas.{stops}
 use Rattle.cs_run.proofs.WorldLemmas.{AreNamed, put_only, unput_only}
-
--- ---- stops
-
--- what the bytes say where reading them errs
-pub record SaysOf (contexts : ℕ) (net : Net) (bytes : List ℕ) (error : ImageError) : Type 0 where
-  pub not_json : error ≡ image.NotJson → images_in net contexts bytes ≡ NoJson
-  pub bad_shape : (at : Place) → error ≡ image.BadShape at → images_in net contexts bytes ≡ RefusedAt at
-  pub no_memory_cell : (name : List ℕ) → error ≡ image.NoMemoryCell name → images_in net contexts bytes ≡ NamesNoMemory name
-  pub count : (name : List ℕ) (found : ℕ) → error ≡ image.Count name found → images_in net contexts bytes ≡ HasOtherCount name found
-
-images_has : (contexts : ℕ) (net : Net) (bytes : List ℕ) (error : ImageError) → SaysOf contexts net bytes error →
-    status_of (images_fault error) ≢ NoMemory →
-    SaysNoImages contexts net bytes (images_fault error) × IsTrue (is_of_files (status_of (images_fault error)))
-images_has contexts net bytes image.NotJson says other = (ap images_refusal (says.not_json refl), refl)
-images_has contexts net bytes (image.BadShape at) says other = (ap images_refusal (says.bad_shape at refl), refl)
-images_has contexts net bytes (image.NoMemoryCell name) says other = (ap images_refusal (says.no_memory_cell name refl), refl)
-images_has contexts net bytes (image.Count name found) says other = (ap images_refusal (says.count name found refl), refl)
-images_has contexts net bytes image.NoMemory says other = absurd (other refl)
-
-pub images_stop : (contexts : ℕ) (net : Net) (bytes : List ℕ) (error : ImageError) (stop : Stop) → SaysOf contexts net bytes error →
-    StopsAt (images_fault error) stop → StopsFor (SaysNoImages contexts net bytes) stop
-images_stop contexts net bytes error stop says at =
-    stops (SaysNoImages contexts net bytes) (images_fault error) stop at (images_has contexts net bytes error says)
 
 -- ---- one answer
 

@@ -6,11 +6,12 @@ use Rattle.cs_json.specs.declared.error.DocError.TheVariants as json
 use Rattle.cs_json.specs.declared.document.Document.{Document}
 use Rattle.cs_json.specs.declared.document.Place.{Place}
 use Rattle.cs_json.specs.Shape.{NoJson, RefusedAt, document}
-use Rattle.cs_multiply.specs.declared.error.MultiplyError.{MultiplyError}
-use Rattle.cs_multiply.specs.declared.error.MultiplyError.TheVariants as multiply
-use Rattle.cs_multiply.specs.Written.{multiply_refusal}
+use Rattle.cs_interleave.specs.declared.error.InterleaveError.{InterleaveError}
+use Rattle.cs_interleave.specs.declared.error.InterleaveError.TheVariants as interleave
+use Rattle.cs_interleave.specs.InterleaveFaults.{TellsInterleaveFault, interleave_fault}
 use Rattle.cs_conditions.specs.declared.error.NetError.{NetError}
 use Rattle.cs_conditions.specs.declared.error.NetError.TheVariants as net
+use Rattle.cs_net.specs.declared.images.Images.{Images}
 use Rattle.cs_net.specs.Accept.{Refuses}
 use Rattle.cs_net.specs.Netlist.{Net}
 use Rattle.cs_report.specs.declared.fault.Fault.{Fault}
@@ -21,9 +22,9 @@ use Rattle.cs_run.specs.declared.reply.Reply.{Reply}
 use Rattle.cs_run.specs.declared.status.Status.TheVariants.{NoMemory}
 use Rattle.cs_run.specs.declared.stop.Stop.{Stop}
 use Rattle.cs_run.specs.declared.stop.Stop.TheVariants.{OutOfMemory, Refused}
-use Rattle.cs_run.specs.Bytes.{HasNoNetlist, IsNetlistOf, SaysNoDocument, doc_fault, document_fault}
-use Rattle.cs_run.specs.Reasons.{Answers, HasNoRows, StopsAt, StopsFor, built_fault, rows_fault}
-use Rattle.cs_run.specs.Slow.{IsNotBuilt}
+use Rattle.cs_run.specs.Bytes.{HasNoNetlist, SaysNoDocument, doc_fault, document_fault}
+use Rattle.cs_run.specs.Reasons.{Answers, HasNoRows, StopsAt, StopsFor, machine_fault, rows_fault}
+use Rattle.cs_run.specs.Slow.{ExceedsLimit}
 use Rattle.cs_run.specs.Statuses.{is_of_files, net_status, status_of}
 
 -- ---- all stops
@@ -116,24 +117,18 @@ pub rows_stop : (found : Option StimError) (error : StimError) (stop : Stop) →
     StopsAt (rows_fault error) stop → StopsFor (HasNoRows found) stop
 rows_stop found error stop has at = stops (HasNoRows found) (rows_fault error) stop at (rows_has found error has)
 
--- ---- netlists that aren't multiplied
+-- ---- machines that would be too large
 
-built_of_files : (error : MultiplyError) → status_of (built_fault error) ≢ NoMemory → IsTrue (is_of_files (status_of (built_fault error)))
-built_of_files multiply.NoMemory other = absurd (other refl)
-built_of_files (multiply.Cell name) other = refl
-built_of_files multiply.PortBits other = refl
+machine_has : (contexts : ℕ) (net : Net) (starts : Images) (error : InterleaveError) → TellsInterleaveFault (interleave_fault net starts contexts) error →
+    status_of (machine_fault error) ≢ NoMemory →
+    ExceedsLimit contexts net starts (machine_fault error) × IsTrue (is_of_files (status_of (machine_fault error)))
+machine_has contexts net starts (interleave.Limit limit) tells other = (record { limit = limit; exceeds = tells; is = refl }, refl)
+machine_has contexts net starts interleave.NoMemory tells other = absurd (other refl)
 
-built_has : (bytes : List ℕ) (net : Net) (error : MultiplyError) → IsNetlistOf bytes net →
-    (error ≡ multiply.NoMemory) ⊎ (multiply_refusal net ≡ Some error) → status_of (built_fault error) ≢ NoMemory →
-    IsNotBuilt bytes (built_fault error) × IsTrue (is_of_files (status_of (built_fault error)))
-built_has bytes net error of_read (inl memory) other = absurd (other (ap (λ e. status_of (built_fault e)) memory))
-built_has bytes net error of_read (inr refuses) other =
-    (record { net = net; error = error; of_read = of_read; refuses = refuses; is = refl }, built_of_files error other)
-
-pub built_stop : (bytes : List ℕ) (net : Net) (error : MultiplyError) (stop : Stop) → IsNetlistOf bytes net →
-    (error ≡ multiply.NoMemory) ⊎ (multiply_refusal net ≡ Some error) → StopsAt (built_fault error) stop → StopsFor (IsNotBuilt bytes) stop
-built_stop bytes net error stop of_read has at =
-    stops (IsNotBuilt bytes) (built_fault error) stop at (built_has bytes net error of_read has)
+pub machine_stop : (contexts : ℕ) (net : Net) (starts : Images) (error : InterleaveError) (stop : Stop) →
+    TellsInterleaveFault (interleave_fault net starts contexts) error → StopsAt (machine_fault error) stop → StopsFor (ExceedsLimit contexts net starts) stop
+machine_stop contexts net starts error stop tells at =
+    stops (ExceedsLimit contexts net starts) (machine_fault error) stop at (machine_has contexts net starts error tells)
 
 -- a reply that is this one is right where this one is
 pub right_reply : (IsRight : Reply → Type 0) (reply made : Reply) → reply ≡ made → IsRight made → IsRight reply

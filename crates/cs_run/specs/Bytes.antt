@@ -7,8 +7,6 @@ use Rattle.cs_json.specs.Shape.{document, NoJson, Reading, RefusedAt, Says}
 use Rattle.cs_conditions.specs.declared.error.NetError.{NetError}
 use Rattle.cs_net.specs.Netlist.{Net}
 use Rattle.cs_net.specs.Accept.{IsAccepted, IsNetOfTop, Refuses}
-use Rattle.cs_net.specs.Contexts.{no_images}
-use Rattle.cs_net.specs.Isolates.{Isolates}
 use Rattle.cs_report.specs.declared.fault.Fault.{Fault}
 use Rattle.cs_report.specs.declared.fault.Fault.TheVariants.{DocumentNotJson, DocumentShape, NoMemory, Refused}
 
@@ -25,14 +23,6 @@ pub record IsNetlistOf (bytes : List ℕ) (net : Net) : Type 0 where
   pub doc : Document
   pub says : document bytes ≡ Says doc
   pub accepted : IsAccepted doc None net
-
--- the netlists of the bytes that are read and of those that are written exist, and the latter isolates the former in c
-pub record BytesIsolate (c : ℕ) (read written : List ℕ) : Type 0 where
-  pub net : Net
-  pub of_read : IsNetOf read net
-  pub written_net : Net
-  pub of_written : IsNetOf written written_net
-  pub isolates : Isolates written_net net (no_images net) c
 
 -- ---- refusals
 

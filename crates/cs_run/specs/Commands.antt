@@ -12,7 +12,7 @@ use Rattle.cs_run.specs.declared.inputs.FileName.{FileName}
 use Rattle.cs_run.specs.declared.inputs.Input.{Input}
 use Rattle.cs_run.specs.declared.inputs.Role.TheVariants.{File, Images, In, Net, Paper, Stim}
 use Rattle.cs_run.specs.declared.reply.Reply.{Reply}
-use Rattle.cs_run.specs.Inputs.{FilesHave, FirstTooLong, all_bytes, bytes_of}
+use Rattle.cs_run.specs.Inputs.{FilesHave, FirstTooLong, all_bytes, bytes_of, found_bytes}
 use Rattle.cs_run.specs.Replies.{putting}
 use Rattle.cs_run.specs.Slow.{BuildsIsolate, MakesSlow, RefusesSlow, slow_reads}
 use Rattle.cs_run.specs.Sim.{MakesSim, RefusesSim, sim_reads}
@@ -47,7 +47,7 @@ writes_of Version = []
 
 -- a command answers its inputs with this reply
 abbrev pub Makes : Command → List Input → Reply → Type 0
-Makes (Slow words) inputs reply = MakesSlow words (bytes_of In inputs) reply
+Makes (Slow words) inputs reply = MakesSlow words (bytes_of In inputs) (found_bytes Images inputs) reply
 Makes (Sim words) inputs reply = MakesSim (bytes_of Net inputs) (bytes_of Stim inputs) reply
 Makes (SimContext words) inputs reply =
     MakesSimContext words (bytes_of Net inputs) (bytes_of Stim inputs) (bytes_of Images inputs) reply
@@ -59,7 +59,7 @@ Makes Version inputs reply = reply ≡ putting version_text
 
 -- whatever the command makes of these inputs is right
 abbrev pub MakesRight : Command → List Input → Type 0
-MakesRight (Slow words) inputs = BuildsIsolate words.contexts (bytes_of In inputs)
+MakesRight (Slow words) inputs = BuildsIsolate words.contexts (bytes_of In inputs) (found_bytes Images inputs)
 MakesRight (Sim words) inputs = ⊤
 MakesRight (SimContext words) inputs = ⊤
 MakesRight (Mix words) inputs = MixesGiveBack (all_bytes inputs)
@@ -70,7 +70,8 @@ MakesRight Version inputs = ⊤
 
 -- a command is refused because its inputs have this fault
 abbrev pub Refuses : Command → List Input → Fault → Type 0
-Refuses (Slow words) inputs fault = RefusesSlow (bytes_of In inputs) fault
+Refuses (Slow words) inputs fault =
+    RefusesSlow words.contexts (bytes_of In inputs) (found_bytes Images inputs) fault
 Refuses (Sim words) inputs fault = RefusesSim (bytes_of Net inputs) (bytes_of Stim inputs) fault
 Refuses (SimContext words) inputs fault =
     RefusesSimContext words (bytes_of Net inputs) (bytes_of Stim inputs) (bytes_of Images inputs) fault

@@ -5,6 +5,7 @@ pub mod Inputs
 pub mod Bytes
 pub mod Rows
 pub mod Worlds
+pub mod Starts
 pub mod Slow
 pub mod Sim
 pub mod SimContext

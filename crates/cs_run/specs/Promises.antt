@@ -21,7 +21,6 @@ use Rattle.cs_words.specs.Commands.{command_of}
 use Rattle.cs_run.specs.declared.inputs.FileName.{FileName}
 use Rattle.cs_run.specs.declared.reply.Reply.{Reply}
 use Rattle.cs_run.specs.declared.status.Status.{Status}
-use Rattle.cs_run.specs.Bytes.{BytesIsolate}
 use Rattle.cs_run.specs.Commands.{HasInputs, HasReason, Makes, reads_of, writes_of}
 use Rattle.cs_run.specs.Mix.{CouldNotWriteMixed, HasMixed, PartsGiveBack, StreamsHave}
 use Rattle.cs_run.specs.Part.{CouldNotPutPart, HasParted}
@@ -29,7 +28,8 @@ use Rattle.cs_run.specs.Reasons.{Reason}
 use Rattle.cs_run.specs.Runs.{FailsReading, HasAnswer, RanOutOfMemory, Run, words_fault}
 use Rattle.cs_run.specs.Sim.{CouldNotRespond, HasResponded}
 use Rattle.cs_run.specs.SimContext.{CouldNotRespondContext, HasRespondedContext}
-use Rattle.cs_run.specs.Slow.{CouldNotWriteOut, HasWritten, IsBuilt}
+use Rattle.cs_run.specs.Slow.{BytesIsolate, CouldNotWriteOut, HasWritten, IsBuilt}
+use Rattle.cs_run.specs.Starts.{TellsBytes}
 use Rattle.cs_run.specs.Statuses.{all_codes, code_of, is_of_files, status_of}
 use Rattle.cs_run.specs.Upgrade.{CouldNotWriteNew, HasUpgraded}
 use Rattle.cs_run.specs.Worlds.{FailsPutting, PutsOnly, PutsSome, StopsAtPut, StopsAtWrite, after_writes, file_in}
@@ -99,10 +99,11 @@ pub record RefusedFiles (run : Run) (status : Status) : Type 0 where
 
 -- ---- one command
 
--- the words are those of `slow`, and the store tells that its IN has these bytes
-pub record HasInput (run : Run) (slow : SlowWords) (bytes : List ℕ) : Type 0 where
+-- the words are those of `slow`, and the store tells that its IN has these bytes, and its IMAGES these, where it is named
+pub record HasInput (run : Run) (slow : SlowWords) (bytes : List ℕ) (images : Option (List ℕ)) : Type 0 where
   pub says : command_of run.words ≡ Ok (Slow slow)
   pub input : file_in run.old.store.files slow.input ≡ Some (Some bytes)
+  pub images_file : TellsBytes run.old.store.files slow.images images
 
 -- the words are those of `mix`, and the store tells that its streams have these bytes
 pub record HasStreams (run : Run) (mix : MixWords) (streams : List (List ℕ)) : Type 0 where
@@ -143,13 +144,16 @@ pub record Promises (run : Run) (result : ℕ) : Type 0 where
       → HasNoFault run → (result ≡ 0) ⊎ (result ≡ 1)
   -- all other files stay
   pub others : OthersStay (write_names run.words) run.old.store.files run.new.store.files
-  -- `slow` at status 0: OUT holds the written document, whose netlist isolates that of IN's bytes at entry
+  -- `slow` at status 0: OUT holds the written document, whose netlist isolates that of IN's bytes at entry, in contexts
+  -- whose memories start with the images of IMAGES' bytes at entry
   pub slow_done : (slow : SlowWords) → command_of run.words ≡ Ok (Slow slow) → result ≡ 0 → HasWritten slow run.old run.new
   pub slow_unwritten : (slow : SlowWords) → command_of run.words ≡ Ok (Slow slow) → result ≡ 4 → CouldNotWriteOut slow run.old run.new
-  pub slow_output : result ≡ 0 → (slow : SlowWords) (bytes netlist : List ℕ) → HasInput run slow bytes
-      → IsBuilt slow.contexts bytes netlist → file_in run.new.store.files slow.output ≡ Some (Some netlist)
-  pub slow_isolates : result ≡ 0 → (slow : SlowWords) (bytes netlist : List ℕ) → HasInput run slow bytes
-      → file_in run.new.store.files slow.output ≡ Some (Some netlist) → BytesIsolate slow.contexts bytes netlist
+  pub slow_output : result ≡ 0 → (slow : SlowWords) (bytes netlist : List ℕ) (images : Option (List ℕ))
+      → HasInput run slow bytes images → IsBuilt slow.contexts bytes images netlist
+      → file_in run.new.store.files slow.output ≡ Some (Some netlist)
+  pub slow_isolates : result ≡ 0 → (slow : SlowWords) (bytes netlist : List ℕ) (images : Option (List ℕ))
+      → HasInput run slow bytes images → file_in run.new.store.files slow.output ≡ Some (Some netlist)
+      → BytesIsolate slow.contexts bytes images netlist
   -- `sim` at status 0: the printed rows that the netlist of NET answers to the rows of STIM are put
   pub sim_responded : (sim : SimWords) → command_of run.words ≡ Ok (Sim sim) → result ≡ 0 → HasResponded sim run.old run.new
   pub sim_unput : (sim : SimWords) → command_of run.words ≡ Ok (Sim sim) → result ≡ 4 → CouldNotRespond sim run.old run.new

@@ -1,9 +1,9 @@
 -- Why a command is refused.
 use Rattle.std.specs.Prelude.{◌≡◌, ◌≢◌, ⊤, Option, Some, IsTrue, Result, Ok, Err}
-use Rattle.cs_multiply.specs.declared.error.MultiplyError.{MultiplyError}
-use Rattle.cs_multiply.specs.declared.error.MultiplyError.TheVariants as multiply
+use Rattle.cs_interleave.specs.declared.error.InterleaveError.{InterleaveError}
+use Rattle.cs_interleave.specs.declared.error.InterleaveError.TheVariants as interleave
 use Rattle.cs_report.specs.declared.fault.Fault.{Fault}
-use Rattle.cs_report.specs.declared.fault.Fault.TheVariants.{StimulusWidth, StimulusCharacter, StimulusUneven, NoMemory as NoMemoryFault, NotBuilt as NothingBuilt, NotBuiltCell}
+use Rattle.cs_report.specs.declared.fault.Fault.TheVariants.{StimulusWidth, StimulusCharacter, StimulusUneven, Limit, NoMemory as NoMemoryFault}
 use Rattle.cs_stream.specs.declared.error.StimError.{StimError}
 use Rattle.cs_stream.specs.declared.error.StimError.TheVariants as stim
 use Rattle.cs_run.specs.declared.reply.Refusal.{Refusal}
@@ -21,11 +21,10 @@ pub record Reason : Type 0 where
 
 -- ---- faults of calls
 
--- the first cell that isn't handled, where there is one
-abbrev pub built_fault : MultiplyError → Fault
-built_fault (multiply.Cell name) = NotBuiltCell name
-built_fault multiply.PortBits = NothingBuilt
-built_fault multiply.NoMemory = NoMemoryFault
+-- a machine for several contexts would be too large
+abbrev pub machine_fault : InterleaveError → Fault
+machine_fault (interleave.Limit limit) = Limit limit
+machine_fault interleave.NoMemory = NoMemoryFault
 
 abbrev pub rows_fault : StimError → Fault
 rows_fault (stim.Width line) = StimulusWidth line

@@ -1,14 +1,11 @@
 -- `sim-context`: what it makes of NET, STIM and IMAGES, and what stands afterwards.
-use Rattle.std.specs.Prelude.{ℕ, ◌≡◌, ◌⊎◌, List, [], ◌∷◌, None, Option, Result, Some}
-use Rattle.cs_images.specs.declared.error.ImageError.{ImageError}
-use Rattle.cs_images.specs.declared.error.ImageError.TheVariants as image
-use Rattle.cs_images.specs.Said.{HasOtherCount, NamesNoMemory, NoJson, Reading, RefusedAt, Says, images_in}
+use Rattle.std.specs.Prelude.{ℕ, ◌≡◌, ◌⊎◌, List, [], ◌∷◌, Option, Result}
+use Rattle.cs_images.specs.Said.{Says, images_in}
 use Rattle.cs_io.specs.Stores.{Files}
 use Rattle.cs_net.specs.declared.images.Images.{Images}
 use Rattle.cs_net.specs.Contexts.{of_context}
 use Rattle.cs_net.specs.Netlist.{Net}
 use Rattle.cs_report.specs.declared.fault.Fault.{Fault}
-use Rattle.cs_report.specs.declared.fault.Fault.TheVariants.{ImagesCount, ImagesName, ImagesNotJson, ImagesShape, NoMemory}
 use Rattle.cs_words.specs.declared.command.SimContextWords.{SimContextWords}
 use Rattle.cs_run.specs.declared.inputs.FileName.{FileName}
 use Rattle.cs_run.specs.declared.inputs.Role.TheVariants.{Images as ImagesRole, Net as NetRole, Stim}
@@ -17,32 +14,11 @@ use Rattle.cs_run.specs.declared.stop.Stop.{Stop}
 use Rattle.cs_run.specs.Bytes.{IsNetlistOf, SaysNoNetlist}
 use Rattle.cs_run.specs.Inputs.{file}
 use Rattle.cs_run.specs.Reasons.{Answers}
+use Rattle.cs_run.specs.Starts.{SaysNoImages}
 use Rattle.cs_run.specs.Sim.{HasNoStimulus, IsAnswered, PutsAnswer}
 use Rattle.cs_run.specs.Worlds.{FailsPutting, Holds, PutsOnly, World}
 
--- ---- images
-
--- why bytes say no images, if they say none
-abbrev pub images_refusal : Reading → Option Fault
-images_refusal NoJson = Some ImagesNotJson
-images_refusal (RefusedAt place) = Some (ImagesShape place)
-images_refusal (NamesNoMemory name) = Some (ImagesName name)
-images_refusal (HasOtherCount name found) = Some (ImagesCount name found)
-images_refusal (Says images) = None
-
--- the fault of images that can't be read
-abbrev pub images_fault : ImageError → Fault
-images_fault image.NotJson = ImagesNotJson
-images_fault (image.BadShape place) = ImagesShape place
-images_fault (image.NoMemoryCell name) = ImagesName name
-images_fault (image.Count name found) = ImagesCount name found
-images_fault image.NoMemory = NoMemory
-
 -- ---- a netlist
-
--- IMAGES says no images of a netlist for so many contexts, because of this fault
-abbrev pub SaysNoImages : ℕ → Net → List ℕ → Fault → Type 0
-SaysNoImages contexts net images fault = images_refusal (images_in net contexts images) ≡ Some fault
 
 -- the netlist with the starts of context K, by the images that IMAGES says
 pub record IsOfContext (words : SimContextWords) (net : Net) (images : List ℕ) (made : Net) : Type 0 where

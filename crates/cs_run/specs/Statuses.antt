@@ -5,7 +5,7 @@ use Rattle.cs_conditions.specs.declared.error.NetError.TheVariants as net
 use Rattle.cs_report.specs.declared.fault.Fault.{Fault}
 use Rattle.cs_report.specs.declared.fault.Fault.TheVariants as fault
 use Rattle.cs_run.specs.declared.status.Status.{Status}
-use Rattle.cs_run.specs.declared.status.Status.TheVariants.{Done, NoMemory, Usage, ReadFault, WriteFault, DocumentFault, NetlistFault, Limit, StimulusFault, CertificateFault, ImagesFault, NotBuilt}
+use Rattle.cs_run.specs.declared.status.Status.TheVariants.{Done, NoMemory, Usage, ReadFault, WriteFault, DocumentFault, NetlistFault, Limit, StimulusFault, CertificateFault, ImagesFault}
 
 -- ---- numbers
 
@@ -21,13 +21,12 @@ code_of Limit = 8
 code_of StimulusFault = 11
 code_of CertificateFault = 12
 code_of ImagesFault = 13
-code_of NotBuilt = 99
 
 -- all statuses, and the numbers that a run answers
 abbrev pub all_statuses : List Status
 all_statuses =
     Done ∷ NoMemory ∷ Usage ∷ ReadFault ∷ WriteFault ∷ DocumentFault ∷ NetlistFault ∷ Limit ∷ StimulusFault ∷ CertificateFault
-    ∷ ImagesFault ∷ NotBuilt ∷ []
+    ∷ ImagesFault ∷ []
 
 abbrev pub all_codes : List ℕ
 all_codes = map code_of all_statuses
@@ -63,8 +62,6 @@ status_of fault.ImagesNotJson = ImagesFault
 status_of (fault.ImagesShape place) = ImagesFault
 status_of (fault.ImagesName name) = ImagesFault
 status_of (fault.ImagesCount name found) = ImagesFault
-status_of fault.NotBuilt = NotBuilt
-status_of (fault.NotBuiltCell name) = NotBuilt
 
 -- ---- what statuses are of
 

@@ -5,11 +5,12 @@ ghost use Rattle.cs_run.specs.Commands.{Makes, MakesRight, Refuses, reads_of};
 ghost use Rattle.cs_run.specs.Inputs.{AreFew, all_bytes, file, files_of};
 ghost use Rattle.cs_run.specs.Reasons.{Answers};
 ghost use Rattle.cs_run.specs.Runs.{HasOutcome, Ran};
+ghost use Rattle.cs_run.specs.Slow.{slow_reads};
 ghost use Rattle.cs_run.specs.Worlds.{world};
 
 use crate::context::answer_sim_context;
 use crate::finish::{carry_out, put_stop};
-use crate::inputs::{FileName, Input, Role, bytes_of, file, read_inputs};
+use crate::inputs::{FileName, Input, Role, bytes_of, file, found_bytes, read_inputs};
 use crate::mixing::answer_mix;
 use crate::own_texts::answer_own;
 use crate::parting::answer_part;
@@ -22,7 +23,7 @@ use crate::upgrading::answer_upgrade;
 use cs_base::{Sequence, Text};
 use cs_io::{Sink, Store};
 use cs_report::{help_text, version_text};
-use cs_words::Command;
+use cs_words::{Command, SlowWords};
 use std::alloc::{AllocError, Global};
 
 // The files that a command reads, in order.
@@ -30,7 +31,7 @@ fn reads_of(alloc: Global, command: &Command) -> Result<Sequence<FileName>, Allo
     ensures { IfOk result (λ reads. reads ≡ reads_of command.now) }
 {
     match command {
-        Command::Slow(words) => one_file(alloc, Role::In, &words.input),
+        Command::Slow(words) => slow_reads(alloc, words),
         Command::Sim(words) => {
             let reads = one_file(alloc, Role::Net, &words.net)?;
             and_file(alloc, reads, Role::Stim, &words.stim)
@@ -56,7 +57,12 @@ fn answer_inputs(alloc: Global, command: &Command, inputs: &[Input]) -> Result<R
         (Refuses command.now inputs.now) result }
 {
     match command {
-        Command::Slow(words) => answer_slow(alloc, words, bytes_of(Role::In, inputs)),
+        Command::Slow(words) => answer_slow(
+            alloc,
+            words,
+            bytes_of(Role::In, inputs),
+            found_bytes(Role::Images, inputs),
+        ),
         Command::Sim(_) => answer_sim(
             alloc,
             bytes_of(Role::Net, inputs),
@@ -105,6 +111,17 @@ pub fn run_command<S: Store, O: Sink>(
     match answer_command(alloc, command, store) {
         Ok(reply) => carry_out(&reply, store, out),
         Err(stop) => put_stop(&stop, out),
+    }
+}
+
+// IN, and IMAGES where it is named.
+fn slow_reads(alloc: Global, words: &SlowWords) -> Result<Sequence<FileName>, AllocError>
+    ensures { IfOk result (λ reads. reads ≡ slow_reads words.now) }
+{
+    let reads = one_file(alloc, Role::In, &words.input)?;
+    match &words.images {
+        Some(name) => and_file(alloc, reads, Role::Images, name),
+        None => Ok(reads),
     }
 }
 

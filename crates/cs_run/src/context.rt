@@ -1,15 +1,15 @@
 // The command `sim-context`.
-ghost use Rattle.std.specs.Prelude.{◌≡◌, ◌<◌, IfErr, IfOk};
+ghost use Rattle.std.specs.Prelude.{◌<◌, IfErr, IfOk};
 ghost use Rattle.cs_run.specs.Reasons.{Answers, StopsFor};
-ghost use Rattle.cs_run.specs.SimContext.{AnswersSimContext, IsOfContext, PutsContext, RefusesContext, SaysNoImages, images_fault};
+ghost use Rattle.cs_run.specs.SimContext.{AnswersSimContext, IsOfContext, PutsContext, RefusesContext};
+ghost use Rattle.cs_run.specs.Starts.{SaysNoImages};
 
 use crate::netlists::read_netlist;
 use crate::reply::Reply;
 use crate::simulation::answer_stimulus;
-use crate::stop::{Stop, stop_at};
-use cs_images::{ImageError, read_images};
+use crate::starts::read_starts;
+use crate::stop::Stop;
 use cs_net::Netlist;
-use cs_report::Fault;
 use cs_words::SimContextWords;
 use std::alloc::Global;
 
@@ -55,20 +55,6 @@ fn net_of_context(
     ensures ok { IfOk result (IsOfContext words.now net.now images.now) }
     ensures err { IfErr result (StopsFor (SaysNoImages words.now.contexts net.now images.now)) }
 {
-    match read_images(alloc, images, net, words.contexts) {
-        Ok(images) => Ok(net.with_images(alloc, &images, words.k)?),
-        Err(error) => Err(stop_at(alloc, images_fault(error))),
-    }
-}
-
-fn images_fault(error: ImageError) -> Fault
-    ensures { result ≡ images_fault error }
-{
-    match error {
-        ImageError::NotJson => Fault::ImagesNotJson,
-        ImageError::BadShape { at } => Fault::ImagesShape(at),
-        ImageError::NoMemoryCell { name } => Fault::ImagesName(name),
-        ImageError::Count { name, found } => Fault::ImagesCount { name, found },
-        ImageError::NoMemory => Fault::NoMemory,
-    }
+    let starts = read_starts(alloc, net, words.contexts, images)?;
+    Ok(net.with_images(alloc, &starts, words.k)?)
 }

@@ -19,7 +19,6 @@ pub enum Status {
     StimulusFault = 11,
     CertificateFault = 12,
     ImagesFault = 13,
-    NotBuilt = 99,
 }
 
 impl Status {
@@ -63,6 +62,5 @@ pub fn status_of(fault: &Fault) -> Status
         | Fault::ImagesShape(_)
         | Fault::ImagesName(_)
         | Fault::ImagesCount { .. } => Status::ImagesFault,
-        Fault::NotBuilt | Fault::NotBuiltCell(_) => Status::NotBuilt,
     }
 }

@@ -1,11 +1,11 @@
 // Why a command goes no further.
 ghost use Rattle.std.specs.Prelude.{◌≡◌};
-ghost use Rattle.cs_run.specs.Reasons.{StopsAt, built_fault, rows_fault};
+ghost use Rattle.cs_run.specs.Reasons.{StopsAt, machine_fault, rows_fault};
 ghost use Rattle.cs_run.specs.declared.stop.Stop.TheVariants.{OutOfMemory};
 
 use crate::reply::{Refusal, refuse};
 use crate::status::{Status, status_of};
-use cs_multiply::MultiplyError;
+use cs_interleave::InterleaveError;
 use cs_report::Fault;
 use cs_stream::StimError;
 use std::alloc::{AllocError, AllocFailed, Global};
@@ -46,14 +46,13 @@ pub fn stop_at(alloc: Global, fault: Fault) -> Stop
     }
 }
 
-/// The fault of a netlist that isn't multiplied: the first cell that isn't handled, where there is one.
-pub fn built_fault(error: MultiplyError) -> Fault
-    ensures { result ≡ built_fault error }
+/// The fault of a netlist whose machine for several contexts would be too large.
+pub fn machine_fault(error: InterleaveError) -> Fault
+    ensures { result ≡ machine_fault error }
 {
     match error {
-        MultiplyError::Cell { name } => Fault::NotBuiltCell(name),
-        MultiplyError::PortBits => Fault::NotBuilt,
-        MultiplyError::NoMemory => Fault::NoMemory,
+        InterleaveError::Limit(limit) => Fault::Limit(limit),
+        InterleaveError::NoMemory => Fault::NoMemory,
     }
 }
 

@@ -4,19 +4,25 @@
 #[cfg(test)]
 mod contexts;
 #[cfg(test)]
+mod cores;
+#[cfg(test)]
 mod documents;
 #[cfg(test)]
 mod failing_calls;
 #[cfg(test)]
 mod in_memory;
 #[cfg(test)]
-mod multiplied;
+mod limits;
 #[cfg(test)]
 mod refused_documents;
+#[cfg(test)]
+mod registers;
 #[cfg(test)]
 mod running;
 #[cfg(test)]
 mod simulated;
+#[cfg(test)]
+mod slowed;
 #[cfg(test)]
 mod streams;
 #[cfg(test)]

@@ -8,7 +8,7 @@ use std::process::Abort;
 const SLOW: &str = "slow in out cert delays -c 2";
 
 // A document in which a part is exchanged for another, and with which status and line that is refused.
-const REFUSED: [(&str, &str, &str, u8, &str); 23] = [
+const REFUSED: [(&str, &str, &str, u8, &str); 21] = [
     (
         REGISTER,
         r#""$_DFF_P_""#,
@@ -149,14 +149,6 @@ const REFUSED: [(&str, &str, &str, u8, &str); 23] = [
         ),
         8,
         "limit: address bits 21 above 20\n",
-    ),
-    (MEMORY, "", "", 99, "not built: \"m\"\n"),
-    (
-        REGISTER,
-        r#""$_DFF_P_","connections":{"#,
-        r#""$_DFFE_PP_","connections":{"E":["1"],"#,
-        99,
-        "not built: \"r\"\n",
     ),
 ];
 

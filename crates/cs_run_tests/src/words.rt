@@ -13,6 +13,8 @@ fn usage_faults(rt: HostRuntime) {
         ("slow a b", "usage: words of slow\n"),
         ("slow a b c d -c 2 -c 2", "usage: words of slow\n"),
         ("slow a b c d -c 2 --fallback", "usage: words of slow\n"),
+        ("slow a b c d -c 2 --lags any", "usage: words of slow\n"),
+        ("slow a b c d -c 2 --images", "usage: words of slow\n"),
         ("slow --help", "usage: words of slow\n"),
         ("sim-context a f i 0", "usage: words of sim-context\n"),
         ("slow a b b d -c 2", "usage: OUT and CERT are one name\n"),
@@ -62,7 +64,7 @@ fn options_anywhere(rt: HostRuntime) {
 
 const HELP: &str = "cslow: one Yosys netlist for C interleaved threads
 usage:
-  cslow slow IN OUT CERT DELAYS -c C
+  cslow slow IN OUT CERT DELAYS -c C [--images IMAGES]
   cslow sim NET STIM
   cslow sim-context NET STIM IMAGES K C
   cslow mix OUT STREAMS

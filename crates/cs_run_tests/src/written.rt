@@ -44,3 +44,15 @@ pub(crate) const WRITTEN_NAMELESS: &str = concat!(
     r#""y":{"bits":[4,5],"direction":"output"}}}}}"#,
     "\n",
 );
+
+/// The inverter beside a register that nothing reads, in two contexts: a register that nothing reads keeps the clock.
+pub(crate) const WRITTEN_UNREAD: &str = concat!(
+    r#"{"creator":"cslow","modules":{"top":{"attributes":{"top":"00000000000000000000000000000001"},"#,
+    r#""cells":{"$cs$g3":{"attributes":{"cslow_cell":"g"},"connections":{"A":[2],"Y":[4]},"hide_name":1,"#,
+    r#""parameters":{},"port_directions":{"A":"input","Y":"output"},"type":"$_NOT_"},"#,
+    r#""$cs$k":{"attributes":{},"connections":{"C":[3],"D":["0"],"Q":[5]},"hide_name":1,"parameters":{},"#,
+    r#""port_directions":{"C":"input","D":"input","Q":"output"},"type":"$_DFF_P_"}},"netnames":{},"#,
+    r#""ports":{"a":{"bits":[2],"direction":"input"},"clk":{"bits":[3],"direction":"input"},"#,
+    r#""y":{"bits":[4],"direction":"output"}}}}}"#,
+    "\n",
+);

@@ -57,6 +57,7 @@ slow_of rows contexts =
       cert = text_at rows (codes "CERT");
       delays = text_at rows (codes "DELAYS");
       contexts = contexts;
+      images = first_of (codes "images") rows;
     }))
 
 abbrev pub sim_of : List Row → Command

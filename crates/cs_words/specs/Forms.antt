@@ -40,6 +40,10 @@ all_named name =
 abbrev pub option : List ℕ → ℕ → Rule
 option name letter = record (named name) { short = Some letter }
 
+-- an option that may be given, with one text behind its long name
+abbrev pub long_option : List ℕ → Rule
+long_option name = record (new_rule name) { action = Some Set; long = Some name }
+
 -- ---- commands
 
 -- the `clap` command with these arguments, and else with nothing but what `clap` adds by itself
@@ -49,7 +53,7 @@ form name rules = fold with_rule (new_app name) rules
 abbrev pub slow_form : App
 slow_form = form (codes "slow") (
     named (codes "IN") ∷ named (codes "OUT") ∷ named (codes "CERT") ∷ named (codes "DELAYS")
-    ∷ option (codes "-c") 99
+    ∷ option (codes "-c") 99 ∷ long_option (codes "images")
     ∷ [])
 
 abbrev pub sim_form : App

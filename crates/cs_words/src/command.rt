@@ -14,7 +14,7 @@ pub enum Command {
     Version,
 }
 
-/// `slow IN OUT CERT DELAYS -c C`
+/// `slow IN OUT CERT DELAYS -c C [--images IMAGES]`
 #[derive(Debug, Drop)]
 pub struct SlowWords {
     pub input: Text,
@@ -22,6 +22,7 @@ pub struct SlowWords {
     pub cert: Text,
     pub delays: Text,
     pub contexts: Contexts,
+    pub images: Option<Text>,
 }
 
 /// `sim NET STIM`

@@ -1,7 +1,7 @@
 // The form of each command's words: a `clap` command, which takes the words or refuses them.
 ghost use Rattle.std.specs.Prelude.{◌≡◌, false, map, IfOk};
 ghost use Rattle.clap.specs.Words.{app_of, rule_of};
-ghost use Rattle.cs_words.specs.Forms.{all_named, form, form_of, mix_form, named, option, part_form, sim_context_form, sim_form, slow_form, upgrade_form};
+ghost use Rattle.cs_words.specs.Forms.{all_named, form, form_of, long_option, mix_form, named, option, part_form, sim_context_form, sim_form, slow_form, upgrade_form};
 
 use crate::verb::Verb;
 use clap::{Arg, ArgAction, Command};
@@ -26,7 +26,9 @@ pub(crate) fn form_of<'a>(alloc: Global, verb: Verb) -> Result<Command<'a>, Allo
 fn slow_form<'a>(alloc: Global) -> Result<Command<'a>, AllocError>
     ensures { IfOk result (λ form. app_of form ≡ slow_form) }
 {
-    named_form(alloc, "slow", &["IN", "OUT", "CERT", "DELAYS"])?.arg(option(alloc, "-c", 'c'))
+    named_form(alloc, "slow", &["IN", "OUT", "CERT", "DELAYS"])?
+        .arg(option(alloc, "-c", 'c'))?
+        .arg(long_option(alloc, "images"))
 }
 
 fn sim_form<'a>(alloc: Global) -> Result<Command<'a>, AllocError>
@@ -97,4 +99,12 @@ fn option<'a>(alloc: Global, name: &'a str, letter: char) -> Arg<'a>
     ensures local { result.global ≡ false }
 {
     named(alloc, name).short(letter)
+}
+
+// An option that may be given, with one text behind its long name.
+fn long_option<'a>(alloc: Global, name: &'a str) -> Arg<'a>
+    ensures rule { rule_of result ≡ long_option name.entry.now }
+    ensures local { result.global ≡ false }
+{
+    Arg::new(alloc, name).action(ArgAction::Set).long(name)
 }

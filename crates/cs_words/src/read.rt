@@ -40,8 +40,8 @@ impl From<AllocError> for WordError {
 /// - `NoCommand` where there is no first word, or it names none of `slow`, `sim`, `sim-context`, `mix`,
 ///   `part`, `upgrade`, `help` (or `--help` or `-h`) and `version` (or `--version` or `-V`);
 /// - `BadWords`, with the first word as it stands, where the `clap` command of the first word refuses the
-///   others: those of `slow` are `IN OUT CERT DELAYS -c C`, of `sim` `NET STIM`, of `sim-context`
-///   `NET STIM IMAGES K C`, of `mix` OUT and any number of streams, of `part` `K C FILE`, of `upgrade`
+///   others: those of `slow` are `IN OUT CERT DELAYS -c C` and perhaps `--images IMAGES`, of `sim` `NET STIM`, of
+///   `sim-context` `NET STIM IMAGES K C`, of `mix` OUT and any number of streams, of `part` `K C FILE`, of `upgrade`
 ///   `OLD NEW`, and `help` and `version` have none;
 /// - `BadNumber`, with the first such name in that order, where C (named `-c` for `slow`) is no number from 1
 ///   to 16, where K is no number or, C being one, not below it, or where `mix` has not 1 to 16 `streams`; a

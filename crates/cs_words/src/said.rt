@@ -1,6 +1,6 @@
 // What the words of each command say, by the matches that its form finds.
 ghost use Rattle.std.specs.Prelude.{◌≡◌, ◌⊎◌, ◌<◌, IfOk, codes, map};
-ghost use Rattle.clap.specs.Words.{found_of, rows_of};
+ghost use Rattle.clap.specs.Words.{first_of, found_of, rows_of};
 ghost use Rattle.cs_words.specs.Commands.{IsWithin, Reads, below, context_at, contexts_at, number_at, said_of, text_at, texts_at};
 ghost use Rattle.cs_words.specs.declared.read.WordError.TheVariants.{BadNumber, NoMemory};
 
@@ -60,6 +60,7 @@ fn slow_words(
       cert = text_at rows (codes "CERT");
       delays = text_at rows (codes "DELAYS");
       contexts = contexts;
+      images = first_of (codes "images") rows;
     }) }
 {
     Ok(SlowWords {
@@ -68,6 +69,7 @@ fn slow_words(
         cert: Text::from_str(alloc, text_at(matches, "CERT"))?,
         delays: Text::from_str(alloc, text_at(matches, "DELAYS"))?,
         contexts,
+        images: given_at(alloc, matches, "images")?,
     })
 }
 
@@ -137,6 +139,17 @@ fn text_at<'a>(matches: &ArgMatches<'a>, name: &str) -> &'a str
     ensures { result.now ≡ text_at (rows_of (found_of matches.now)) name.now }
 {
     matches.get_str(name).unwrap_or("")
+}
+
+// The text of a name that may be left out.
+#[tactic(auto, using(crate::proofs::MatchLemmas::first_text))]
+fn given_at(alloc: Global, matches: &ArgMatches<'_>, name: &str) -> Result<Option<Text>, AllocError>
+    ensures { IfOk result (λ text. text ≡ first_of name.now (rows_of (found_of matches.now))) }
+{
+    match matches.get_str(name) {
+        Some(text) => Ok(Some(Text::from_str(alloc, text)?)),
+        None => Ok(None),
+    }
 }
 
 // All texts of a name.

@@ -1,4 +1,5 @@
 use Rattle.std.proofs.Common.{subst}
+use Rattle.std.specs.Option.{option_copied}
 use Rattle.cs_words.specs.Commands.{IsWithin}
 use Rattle.cs_run.proofs.AnswerLemmas.{help_answers, mix_answers, mix_counts, part_answers, sim_answers, sim_context_answers, slow_answers, upgrade_answers, version_answers}
 use Rattle.cs_run.proofs.commands.answer_inputs.Goals as goal
@@ -13,7 +14,8 @@ answer_mix-requires-clause-most c =
 
 pub returns-in-Slow : goal.returns-in-Slow
 returns-in-Slow c =
-    slow_answers c.args.command.now c.in-Slow.words c.args.inputs.now c.bytes_of.result.now c.answer_slow.result c.in-Slow.is c.bytes_of.ensures
+    slow_answers c.args.command.now c.in-Slow.words c.args.inputs.now c.bytes_of.result.now (option_copied c.found_bytes.result)
+    c.answer_slow.result c.in-Slow.is c.bytes_of.ensures c.found_bytes.ensures
     c.answer_slow.ensures
 
 pub returns-in-Sim : goal.returns-in-Sim

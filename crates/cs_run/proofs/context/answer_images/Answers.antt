@@ -1,6 +1,7 @@
 use Rattle.std.proofs.Common.{inl, inr}
 use Rattle.cs_run.specs.Sim.{HasNoStimulus, PutsAnswer}
-use Rattle.cs_run.specs.SimContext.{PutsContext, RefusesContext, SaysNoImages}
+use Rattle.cs_run.specs.SimContext.{PutsContext, RefusesContext}
+use Rattle.cs_run.specs.Starts.{SaysNoImages}
 use Rattle.cs_run.proofs.StopLemmas.{answers_implies, handed_on, implies}
 use Rattle.cs_run.proofs.context.answer_images.Goals as goal
 

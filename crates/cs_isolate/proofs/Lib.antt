@@ -1,0 +1,5 @@
+pub mod KindCounts
+pub mod LoweredKinds
+pub mod OwnNames
+pub mod Still
+pub mod Isolating

@@ -1,0 +1,2 @@
+pub mod Isolating
+pub mod Still

@@ -1,4 +1,0 @@
-pub mod Multiplies
-pub mod Circuits
-pub mod Written
-pub mod Multiplied

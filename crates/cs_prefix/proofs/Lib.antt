@@ -1,0 +1,16 @@
+pub mod LayerLemmas
+pub mod Beginnings
+pub mod Splitting
+pub mod Partly
+pub mod OneMore
+pub mod Child
+pub mod LevelSteps
+pub mod Served
+pub mod RunLemmas
+pub mod TurnLemmas
+pub mod KeyOrder
+pub mod Standing
+pub mod RunSteps
+pub mod Turns
+pub mod PlanMade
+pub mod OneList

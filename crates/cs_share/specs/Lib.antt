@@ -1,0 +1,11 @@
+pub mod Registers
+pub mod Ports
+pub mod Shared
+pub mod Names
+pub mod Emission
+pub mod ReadBack
+pub mod Planned
+pub mod Inputs
+pub mod Assembled
+pub mod EmitFaults
+pub mod Period
