@@ -3,6 +3,7 @@ pub mod Depth
 pub mod Back
 pub mod Loops
 pub mod PrintingLemmas
+pub mod PartLemmas
 pub mod NoFloats
 pub mod Newline
 pub mod PlainData

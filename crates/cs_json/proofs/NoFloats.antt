@@ -1,19 +1,17 @@
--- A printed document has no float.
+-- What is printed of a document has no float.
 use Rattle.std.proofs.Common.{◌≡◌, List, [], ◌∷◌, Bool, false, ◌||◌, map, refl, pos, negsuc}
 use Rattle.serde_json.specs.Data.{Data}
 use Rattle.serde_json.specs.View.{items_of}
 use Rattle.serde_json.specs.Written.{has_float, items_have_float, members_have_float}
 use Rattle.cs_base.specs.declared.signal.Signal.{Signal}
 use Rattle.cs_base.specs.declared.signal.Signal.TheVariants.{Zero, One, Unknown, HighZ, Bit}
-use Rattle.cs_json.specs.declared.document.Document.{Document}
-use Rattle.cs_json.specs.declared.document.Module.{Module}
 use Rattle.cs_json.specs.declared.document.PortDecl.{PortDecl}
 use Rattle.cs_json.specs.declared.document.CellDecl.{CellDecl}
 use Rattle.cs_json.specs.declared.document.NetDecl.{NetDecl}
 use Rattle.cs_json.specs.declared.document.Entry.{Entry}
 use Rattle.cs_json.specs.declared.document.Datum.{Datum}
 use Rattle.cs_json.specs.declared.document.Datum.TheVariants.{Digits, Number}
-use Rattle.cs_json.specs.Printed.{Member, members_from, signal_data, signals_data, datum_data, entry_member, port_member, net_member, wire_of, wire_member, side_member, cell_member, module_member, data_of}
+use Rattle.cs_json.specs.Printed.{Member, members_from, signal_data, signals_data, datum_data, entry_member, port_member, net_member, wire_of, wire_member, side_member, cell_member}
 
 pub neither : (a b : Bool) → a ≡ false → b ≡ false → (a || b) ≡ false
 neither a b x y = rw (x, y) refl
@@ -47,16 +45,16 @@ datum_none (Digits s) = refl
 datum_none (Number (pos n)) = refl
 datum_none (Number (negsuc n)) = refl
 
-entries_none : (es : List Entry) → members_have_float (members_from (map entry_member es)) ≡ false
+pub entries_none : (es : List Entry) → members_have_float (members_from (map entry_member es)) ≡ false
 entries_none es = members_none entry_member (λ e. datum_none e.datum) es
 
-port_none : (p : PortDecl) → has_float (port_member p).1 ≡ false
+pub port_none : (p : PortDecl) → has_float (port_member p).1 ≡ false
 port_none p = neither (has_float (signals_data p.bits)) false (signals_none p.bits) refl
 
-net_none : (n : NetDecl) → has_float (net_member n).1 ≡ false
+pub net_none : (n : NetDecl) → has_float (net_member n).1 ≡ false
 net_none n = rw (entries_none n.attributes, signals_none n.bits) refl
 
-cell_none : (c : CellDecl) → has_float (cell_member c).1 ≡ false
+pub cell_none : (c : CellDecl) → has_float (cell_member c).1 ≡ false
 cell_none c =
     rw (
       entries_none c.attributes,
@@ -64,16 +62,3 @@ cell_none c =
       entries_none c.parameters,
       members_none side_member (λ p. refl) c.pins,
     ) refl
-
-module_none : (m : Module) → has_float (module_member m).1 ≡ false
-module_none m =
-    rw (
-      entries_none m.attributes,
-      members_none cell_member cell_none m.cells,
-      members_none net_member net_none m.nets,
-      members_none port_member port_none m.ports,
-    ) refl
-
-pub has_float-data_of : (doc : Document) → has_float (data_of doc) ≡ false
-unfolding data_of
-has_float-data_of doc = rw (members_none module_member module_none doc.modules) refl

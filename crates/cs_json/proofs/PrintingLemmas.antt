@@ -14,12 +14,6 @@ use Rattle.cs_json.specs.Printed.{Member, members_from, object_from}
 use Rattle.cs_json.specs.Readable.{is_below, AreInOrder}
 use Rattle.cs_json.proofs.Ordered.{less_of}
 
--- order and readability of the same list
-pub order_of : {A : Type 0} (name : A → List ℕ) (xs ys : List A) → xs ≡ ys → AreInOrder name ys
-    → AreInOrder name xs
-order_of {A = A} name xs ys same order =
-    let P : List A → Type 0 = AreInOrder name in subst P (sym same) order
-
 -- a key that is above those before it goes last
 put_last : {A : Type 0} (f : A → Member) (xs : List A) (x : A)
     → AllByRecursion (λ y. IsTrue (is_below (f y).0 (f x).0)) xs

@@ -12,9 +12,9 @@ mod modules;
 pub mod places;
 mod ports;
 mod print;
-mod printing;
 mod read;
 mod signals;
+mod values;
 
 pub use document::{
     CellDecl, Datum, Direction, Document, Entry, Module, NetDecl, PinDecl, Place, PortDecl,

@@ -1,40 +1,45 @@
 -- The printed bytes, and that they are read again.
-use Rattle.std.proofs.Common.{◌≡◌, List, ℕ, [], ◌∷◌, ◌++◌, false, refl, ap, ◌∙◌, subst}
+use Rattle.std.proofs.Common.{◌≡◌, ◌∷◌, ◌++◌, [], ap, codes, false, refl, string_bytes, subst, sym, true, ◌∙◌}
 use Rattle.std.specs.Prelude.{IsUtf8}
-use Rattle.std.proofs.lemmas.Str.{IsUtf8-append}
-use Rattle.json.proofs.Printed.Utf8.{IsUtf8-are_ascii}
-use Rattle.serde_json.specs.Data.{Data}
-use Rattle.serde_json.specs.View.{view}
-use Rattle.serde_json.specs.Written.{has_float, compact_text}
-use Rattle.cs_json.specs.declared.document.Document.{Document}
-use Rattle.cs_json.specs.Printed.{data_of, printed}
+use Rattle.std.proofs.lemmas.List.{append_assoc}
+use Rattle.std.proofs.lemmas.Str.{IsUtf8-string_bytes}
+use Rattle.serde_json.specs.Data.{Data, Members, member, no_members, string}
+use Rattle.serde_json.specs.Written.{compact_text, members_text}
+use Rattle.cs_json.specs.Printed.{data_of, module_member, object_from, printed}
 use Rattle.cs_json.specs.Shape.{document}
-use Rattle.cs_json.proofs.NoFloats.{has_float-data_of}
+use Rattle.cs_json.proofs.PartLemmas.{member_written, of_same_list}
 use Rattle.cs_json.proofs.PlainDocument.{document-printed}
 use Rattle.cs_json.proofs.print.print_document.Goals as goal
 
--- the text of the document's value, and a newline, are the printed text
-printed_of : (doc : Document) (d : Data) (text : List ℕ) → d ≡ data_of doc
-    → (has_float d ≡ false → text ≡ compact_text d) → text ++ 10 ∷ [] ≡ printed doc
-printed_of doc d text whole is =
-    ap (λ t. t ++ 10 ∷ []) (is (ap has_float whole ∙ has_float-data_of doc) ∙ ap compact_text whole)
-
-utf8_of : (doc : Document) (text : List ℕ) → text ++ 10 ∷ [] ≡ printed doc → IsUtf8 text
-    → IsUtf8 (printed doc)
-utf8_of doc text same utf8 =
-    subst IsUtf8 same (IsUtf8-append text (10 ∷ []) utf8 (IsUtf8-are_ascii (10 ∷ []) refl))
+printed_of : (c : goal.After-into_bytes) → string_bytes c.push_str.new.self ≡ printed c.args.doc.now
+unfolding data_of
+printed_of c =
+    let whole = compact_text (data_of c.args.doc.now) in
+    let modules : Data = object_from module_member c.args.doc.now.modules in
+    let last : Members = member (codes "modules") modules no_members in
+    let begun : string_bytes c.in_ok-text.text ++ members_text false (member (codes "creator") (string (codes "cslow")) last) ≡ whole =
+    ap (λ t. t ++ members_text false (member (codes "creator") (string (codes "cslow")) last)) c.in_ok-text.ensures.ok in
+    let first_written =
+    member_written false (codes "creator") (string (codes "cslow")) last (string_bytes c.in_ok-text.text)
+    (string_bytes c.put_key.new.text) (string_bytes c.put_string.new.text) whole
+    c.in_ok-put_key.ensures c.in_ok-put_string.ensures begun in
+    let all_written =
+    member_written true (codes "modules") modules no_members (string_bytes c.put_string.new.text)
+    (string_bytes c.put_key-2.new.text) (string_bytes c.put_object.new.text) whole
+    c.in_ok-put_key-2.ensures
+    (of_same_list module_member c.as_slice.result.now c.args.doc.now.modules (string_bytes c.put_key-2.new.text)
+    (string_bytes c.put_object.new.text) c.as_slice.ensures c.in_ok-put_object.ensures)
+    first_written in
+    c.in_ok-push_str.ensures.bytes
+    ∙ sym (append_assoc (string_bytes c.put_object.new.text) (125 ∷ []) (10 ∷ []))
+    ∙ ap (λ t. t ++ 10 ∷ []) all_written
 
 pub returns-clause-text : goal.returns-clause-text
-returns-clause-text c =
-    c.in_ok-push.ensures.items
-    ∙ printed_of c.args.doc.now (view c.in_ok-value.value)
-    c.in_ok-text.text.items c.in_ok-value.ensures c.in_ok-text.ensures.text
+returns-clause-text c = ap (λ v. v.items) c.into_bytes.ensures.value ∙ printed_of c
 
 pub returns-clause-reads_back : goal.returns-clause-reads_back
 returns-clause-reads_back c =
-    let same =
-    printed_of c.args.doc.now (view c.in_ok-value.value)
-    c.in_ok-text.text.items c.in_ok-value.ensures c.in_ok-text.ensures.text in
-    ap document (c.in_ok-push.ensures.items ∙ same)
+    ap (λ v. document v.items) c.into_bytes.ensures.value
+    ∙ ap document (printed_of c)
     ∙ document-printed c.args.doc.now c.requires
-    (utf8_of c.args.doc.now c.in_ok-text.text.items same c.in_ok-text.ensures.utf8)
+    (subst IsUtf8 (printed_of c) (IsUtf8-string_bytes c.push_str.new.self))

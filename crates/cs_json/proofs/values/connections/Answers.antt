@@ -4,7 +4,7 @@ use Rattle.serde_json.specs.Data.{object}
 use Rattle.serde_json.specs.View.{members_view}
 use Rattle.cs_json.specs.Printed.{wire_member, wire_of, members_from, signals_data}
 use Rattle.cs_json.proofs.PrintingLemmas.{one_more_put, all_put, map_twice}
-use Rattle.cs_json.proofs.printing.connections.Goals as goal
+use Rattle.cs_json.proofs.values.connections.Goals as goal
 
 pub loop-pin-preserved : goal.loop-pin-preserved
 loop-pin-preserved c =

@@ -3,7 +3,7 @@ use Rattle.serde_json.specs.Data.{string}
 use Rattle.serde_json.specs.View.{members_view}
 use Rattle.cs_json.specs.Printed.{side_member}
 use Rattle.cs_json.proofs.PrintingLemmas.{one_more_put, all_put}
-use Rattle.cs_json.proofs.printing.sides.Goals as goal
+use Rattle.cs_json.proofs.values.sides.Goals as goal
 
 pub loop-pin-preserved : goal.loop-pin-preserved
 loop-pin-preserved c =

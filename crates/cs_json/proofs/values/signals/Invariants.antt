@@ -2,7 +2,7 @@
 use Rattle.std.proofs.Common.{◌≡◌, map, take}
 use Rattle.serde_json.specs.View.{view}
 use Rattle.cs_json.specs.Printed.{signal_data}
-use Rattle.cs_json.proofs.printing.signals.Given as goal
+use Rattle.cs_json.proofs.values.signals.Given as goal
 
 -- the values of the bits so far
 abbrev pub invariant-loop-bit : goal.invariant-loop-bit
