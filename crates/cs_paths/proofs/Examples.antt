@@ -2,7 +2,8 @@
 use Rattle.std.proofs.Common.{◌≡◌, ◌∷◌, [], refl, inl, inr, arith}
 use Rattle.std.specs.Prelude.{Some, None}
 use Rattle.cs_paths.specs.Reaches.{no_reach, reach_of, known_at}
-use Rattle.cs_paths.specs.Searches.{IsAsGood, IsUpTo}
+use Rattle.cs_paths.specs.Searches.{IsAsGood}
+use Rattle.cs_paths.specs.Waitings.{IsUpTo}
 
 -- a pair without a path, and one with W 1 and D 6
 nothing_kept : reach_of no_reach ≡ None

@@ -3,7 +3,7 @@ pub mod WaitingLemmas
 pub mod SearchLemmas
 pub mod SettleLemmas
 pub mod RoundLemmas
-pub mod WorkLemmas
+pub mod MarkLemmas
 pub mod GuideLemmas
 pub mod StepLemmas
 pub mod TraceLemmas

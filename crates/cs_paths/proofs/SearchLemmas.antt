@@ -1,10 +1,9 @@
 -- The steps of a search: an edge is relaxed, a vertex is settled, and what holds when nothing waits.
-use Rattle.std.proofs.Common.{◌≡◌, ◌⊎◌, ℕ, zero, suc, ◌+◌, ◌<◌, ◌≤◌, Bool, true, false, List, [], ◌∷◌, ◌++◌, length, set, IsPermutation, refl, sym, ap, subst, ◌∙◌, inl, inr, arith}
-use Rattle.std.specs.Prelude.{Some, slice_get, Contains}
+use Rattle.std.proofs.Common.{◌≡◌, ◌⊎◌, ℕ, zero, suc, ◌+◌, ◌*◌, ◌<◌, ◌≤◌, Bool, true, false, List, [], ◌∷◌, ◌++◌, length, set, refl, sym, ap, subst, ◌∙◌, inl, inr, arith}
+use Rattle.std.specs.Prelude.{Some, slice_get}
 use Rattle.std.proofs.lemmas.Bool.{cases_eq, cases_Bool}
 use Rattle.std.proofs.lemmas.List.{get_or-set_same, get_or-set_other, length-set}
 use Rattle.std.proofs.lemmas.Option.{same_Some, slice_get_within}
-use Rattle.std.proofs.lemmas.List.Sorted.{Contains-permutation, IsPermutation-sym}
 use Rattle.cs_graph.specs.declared.delays.Delays.{Delays}
 use Rattle.cs_graph.specs.declared.edge.Edge.{Edge}
 use Rattle.cs_graph.specs.declared.graph.Graph.{Graph}
@@ -13,7 +12,8 @@ use Rattle.cs_paths.specs.declared.reach.Reach.{Reach}
 use Rattle.cs_paths.specs.declared.guide.Guide.{Guide}
 use Rattle.cs_paths.specs.Guides.{place_of, IsGuide}
 use Rattle.cs_paths.specs.Reaches.{no_reach, reach_of, known_at}
-use Rattle.cs_paths.specs.Searches.{IsAsGood, Knows, along, IsRelaxed, HasPathWith, IsUpTo, is_settled, settled_count, IsFew, IsUndone, IsSearch, IsSettled, IsRaised, IsLowered, Improves}
+use Rattle.cs_paths.specs.Searches.{IsAsGood, Knows, along, IsRelaxed, HasPathWith, is_settled, settled_count, IsFew, IsUndone, IsSearch, IsSettled, IsRaised, IsLowered, Improves}
+use Rattle.cs_paths.specs.Waitings.{Queue, Waits, IsUpTo, CanWait, IsAdded}
 
 -- ---- registers and delays
 
@@ -75,19 +75,6 @@ fewer n m p last h k = elim h [
     | inr (other, less) ↦ absurd (omega (arith, few, less))
   ]
 ]
-
--- ---- what waits
-
-pub contains_first : (x : ℕ × ℕ) (xs : List (ℕ × ℕ)) → Contains (x ∷ xs) x
-contains_first x xs = (0, omega arith, refl)
-
-pub contains_more : (x : ℕ × ℕ) (xs : List (ℕ × ℕ)) (y : ℕ × ℕ) → Contains xs y → Contains (x ∷ xs) y
-contains_more x xs y (k, low, is) = (suc k, omega (arith, low), is)
-
-pub contains_either : (x : ℕ × ℕ) (xs : List (ℕ × ℕ)) (y : ℕ × ℕ) → Contains (x ∷ xs) y
-    → (y ≡ x) ⊎ Contains xs y
-contains_either x xs y (zero, low, is) = inl (sym is)
-contains_either x xs y (suc k, low, is) = inr (k, omega (arith, low), is)
 
 -- ---- what a row keeps
 
@@ -157,6 +144,18 @@ module _ (g : Graph) (delays : Delays) where
 
 -- ---- an edge is relaxed
 
+-- the queue doesn't go on by what comes to wait
+pub improves_position : (x place : ℕ) (new : ℕ × ℕ) (row : List Reach) (waiting : Queue) (row' : List Reach)
+    (waiting' : Queue) → Improves x place new row waiting row' waiting'
+    → (waiting'.level ≡ waiting.level) × (waiting'.next ≡ waiting.next)
+improves_position x place new row waiting row' waiting' improves = elim improves [
+  | inl (knows, same_row, same) ↦ (ap (λ (q : Queue). q.level) same, ap (λ (q : Queue). q.next) same)
+  | inr rest ↦ elim rest [
+    | inl (raised, same) ↦ (ap (λ (q : Queue). q.level) same, ap (λ (q : Queue). q.next) same)
+    | inr (lowered, added) ↦ (added.level, added.next)
+  ]
+]
+
 module _ (g : Graph) (delays : Delays) (guide : Guide) (guides : IsGuide g guide) where
   -- along an edge one comes later in the queue's order
   pub edge_later : (e : ℕ) (d : Edge) (a : ℕ × ℕ) → slice_get g.edges e ≡ Some d
@@ -172,9 +171,26 @@ module _ (g : Graph) (delays : Delays) (guide : Guide) (guides : IsGuide g guide
       let count = guides.ordered in
       omega (arith, within, count)
 
+  -- the end of an edge comes no earlier than what has been taken, where its beginning was the last
+  pub edge_waits : (q : Queue) (v e : ℕ) (d : Edge) (from : ℕ × ℕ) (w p : ℕ) → slice_get g.edges e ≡ Some d
+      → d.from ≡ v → q.level ≡ from.0 → q.next ≡ place_of guide v + 1 → w ≡ from.0 + d.weight
+      → p ≡ place_of guide d.to → d.to < length g.vertices → length g.vertices ≤ 4096 → d.weight ≤ 65536
+      → from.0 ≤ 4096 * 65536 → CanWait q (w, p)
+  edge_waits q v e d from w p found begins level next weight place among most light few =
+      let start = ap (place_of guide) begins in
+      let low = place_low d.to among in
+      record {
+        comes = elim (edge_later e d from found) [
+          | inl less ↦ inl (omega (arith, less, level, weight))
+          | inr (same, less) ↦ inr (omega (arith, same, level, weight), omega (arith, less, next, place, start))
+        ];
+        place = omega (arith, low, most, place);
+        few = omega (arith, few, light, weight);
+      }
+
   -- a vertex that the row keeps something new of
   module _ (u v : ℕ) (from : ℕ × ℕ) (edges : List ℕ) (k e : ℕ) (d : Edge) (row : List Reach)
-      (settled : List Bool) (waiting : List (ℕ × ℕ))
+      (settled : List Bool) (waiting : Queue)
       (is : IsSearch g delays guide u (from.0, place_of guide v) edges k row settled waiting)
       (has : IsSettled v from row settled) (at : slice_get edges k ≡ Some e) (found : slice_get g.edges e ≡ Some d)
       (begins : d.from ≡ v) where
@@ -229,18 +245,19 @@ module _ (g : Graph) (delays : Delays) (guide : Guide) (guides : IsGuide g guide
       ahead = is.ahead;
       later = is.later;
       places = is.places;
+      light = is.light;
       few = is.few;
     }
 
     -- something better is kept of a vertex that is not settled
-    module _ (r : Reach) (waiting' : List (ℕ × ℕ)) (among : d.to < length g.vertices)
+    module _ (r : Reach) (waiting' : Queue) (among : d.to < length g.vertices)
         (light : d.weight ≤ 65536) (quick : pin_delay delays d.to d.pin ≤ 1000000)
         (new : reach_of r ≡ Some (along delays d from))
         (better : (old : ℕ × ℕ) → known_at row d.to ≡ Some old → IsAsGood (along delays d from) old)
         (open_end : is_settled settled d.to ≡ false)
-        (stays : (q : ℕ × ℕ) → Contains waiting q → Contains waiting' q)
-        (waits_now : Contains waiting' (from.0 + d.weight, place_of guide d.to))
-        (only : (q : ℕ × ℕ) → Contains waiting' q → (q ≡ (from.0 + d.weight, place_of guide d.to)) ⊎ Contains waiting q)
+        (stays : (q : ℕ × ℕ) → Waits waiting q → Waits waiting' q)
+        (waits_now : Waits waiting' (from.0 + d.weight, place_of guide d.to))
+        (only : (q : ℕ × ℕ) → Waits waiting' q → (q ≡ (from.0 + d.weight, place_of guide d.to)) ⊎ Waits waiting q)
       where
         low : d.to < length row
         low = let count = is.reaches in omega (arith, among, count)
@@ -293,8 +310,8 @@ module _ (g : Graph) (delays : Delays) (guide : Guide) (guides : IsGuide g guide
           begins = knows_stays row d.to r (along delays d from) low new better u _ is.begins;
           waits = λ w a known flag. elim (cases_eq w d.to) [
             | inl same ↦
-                subst (λ (b : ℕ × ℕ). Contains waiting' (b.0, place_of guide w)) (what_now w a same known)
-                (subst (λ n. Contains waiting' (from.0 + d.weight, place_of guide n)) (sym same) waits_now)
+                subst (λ (b : ℕ × ℕ). Waits waiting' (b.0, place_of guide w)) (what_now w a same known)
+                (subst (λ n. Waits waiting' (from.0 + d.weight, place_of guide n)) (sym same) waits_now)
             | inr away ↦ stays _ (is.waits w a (sym (other w away) ∙ known) flag)
           ];
           relaxed = λ f c there flag. elim (is.relaxed f c there flag) [
@@ -322,6 +339,10 @@ module _ (g : Graph) (delays : Delays) (guide : Guide) (guides : IsGuide g guide
             | inl same ↦ subst (λ (p : ℕ × ℕ). p.1 < length g.vertices) (sym same) (place_low d.to among)
             | inr old ↦ is.places q old
           ];
+          light = λ q stands. elim (only q stands) [
+            | inl same ↦ subst (λ (p : ℕ × ℕ). p.0 ≤ settled_count settled * 65536) (sym same) few_now.0
+            | inr old ↦ is.light q old
+          ];
           few = λ w a known. elim (cases_eq w d.to) [
             | inl same ↦ subst (IsFew (settled_count settled)) (what_now w a same known) few_now
             | inr away ↦ is.few w a (sym (other w away) ∙ known)
@@ -329,7 +350,7 @@ module _ (g : Graph) (delays : Delays) (guide : Guide) (guides : IsGuide g guide
         }
 
     -- what is new is kept where it is better
-    module _ (row' : List Reach) (waiting' : List (ℕ × ℕ)) (among : d.to < length g.vertices)
+    module _ (row' : List Reach) (waiting' : Queue) (among : d.to < length g.vertices)
         (light : d.weight ≤ 65536) (quick : pin_delay delays d.to d.pin ≤ 1000000)
         (improves : Improves d.to (place_of guide d.to) (along delays d from) row waiting row' waiting') where
       -- a vertex that is not settled
@@ -359,7 +380,7 @@ module _ (g : Graph) (delays : Delays) (guide : Guide) (guides : IsGuide g guide
                 omega (arith, less, which),
           ) in
           let flag = open_unless (λ old known. let same_count = as_many old known in omega (arith, same_count)) in
-          let waits = subst (λ n. Contains waiting (n, place_of guide d.to)) raised.as_many
+          let waits = subst (λ n. Waits waiting (n, place_of guide d.to)) raised.as_many
           (is.waits d.to raised.old raised.known flag) in
           subst (λ ws. IsSearch g delays guide u (from.0, place_of guide v) edges (k + 1) row' settled ws
           × IsSettled v from row' settled) (sym same)
@@ -371,24 +392,19 @@ module _ (g : Graph) (delays : Delays) (guide : Guide) (guides : IsGuide g guide
           ))
 
       lowered_goes_on : IsLowered d.to (along delays d from) row row'
-          → IsPermutation ((from.0 + d.weight, place_of guide d.to) ∷ waiting) waiting'
+          → IsAdded (from.0 + d.weight, place_of guide d.to) waiting waiting'
           → IsSearch g delays guide u (from.0, place_of guide v) edges (k + 1) row' settled waiting'
           × IsSettled v from row' settled
-      lowered_goes_on lowered moves =
-          let new : ℕ × ℕ = (from.0 + d.weight, place_of guide d.to) in
+      lowered_goes_on lowered added =
           let better : (old : ℕ × ℕ) → known_at row d.to ≡ Some old → IsAsGood (along delays d from) old =
           λ old known. inl (lowered.fewer old known) in
           let flag = open_unless (λ old known. let less = lowered.fewer old known in omega (arith, less)) in
-          let stays : (q : ℕ × ℕ) → Contains waiting q → Contains waiting' q =
-          λ q h. Contains-permutation (new ∷ waiting) waiting' q moves (contains_more new waiting q h) in
-          let waits = Contains-permutation (new ∷ waiting) waiting' new moves (contains_first new waiting) in
-          let only : (q : ℕ × ℕ) → Contains waiting' q → (q ≡ new) ⊎ Contains waiting q =
-          λ q h. contains_either new waiting q (Contains-permutation waiting' (new ∷ waiting) q
-          (IsPermutation-sym (new ∷ waiting) waiting' moves) h) in
           subst (λ xs. IsSearch g delays guide u (from.0, place_of guide v) edges (k + 1) xs settled waiting'
           × IsSettled v from xs settled) (sym lowered.kept) (
-            better_goes_on lowered.reach waiting' among light quick lowered.is better flag stays waits only,
-            settled_goes_on lowered.reach waiting' among light quick lowered.is better flag stays waits only,
+            better_goes_on lowered.reach waiting' among light quick lowered.is better flag added.stays added.now
+                added.only,
+            settled_goes_on lowered.reach waiting' among light quick lowered.is better flag added.stays added.now
+                added.only,
           )
 
       pub relaxed_goes_on : IsSearch g delays guide u (from.0, place_of guide v) edges (k + 1) row' settled waiting'
@@ -401,6 +417,6 @@ module _ (g : Graph) (delays : Delays) (guide : Guide) (guides : IsGuide g guide
             × IsSettled v from xs settled) (sym same_row) (kept_goes_on knows, has))
         | inr rest ↦ elim rest [
           | inl (raised, same) ↦ raised_goes_on raised same
-          | inr (lowered, moves) ↦ lowered_goes_on lowered moves
+          | inr (lowered, added) ↦ lowered_goes_on lowered added
         ]
       ]

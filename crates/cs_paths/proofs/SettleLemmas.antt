@@ -1,9 +1,8 @@
 -- A search begins, takes what waits, and ends with the row of its vertex.
-use Rattle.std.proofs.Common.{◌≡◌, ◌⊎◌, ℕ, zero, suc, ◌+◌, ◌<◌, ◌≤◌, Bool, true, false, List, [], ◌∷◌, length, set, replicate, All, IsPermutation, refl, sym, ap, subst, ◌∙◌, inl, inr, arith}
+use Rattle.std.proofs.Common.{◌≡◌, ◌⊎◌, ℕ, zero, suc, ◌+◌, ◌<◌, ◌≤◌, Bool, true, false, List, [], ◌∷◌, length, set, replicate, refl, sym, ap, subst, ◌∙◌, inl, inr, arith}
 use Rattle.std.specs.Prelude.{Option, Some, None, slice_get, Contains}
 use Rattle.std.proofs.lemmas.Bool.{cases_lt, cases_eq, cases_Bool}
 use Rattle.std.proofs.lemmas.List.{get_or-set_same, get_or-set_other, length-set, length-replicate}
-use Rattle.std.proofs.lemmas.List.Sorted.{Contains-permutation, IsPermutation-sym}
 use Rattle.std.proofs.lemmas.Option.{none-some, same_Some, slice_get_within}
 use Rattle.cs_base.proofs.ListLemmas.{contains_at}
 use Rattle.cs_graph.specs.declared.delays.Delays.{Delays}
@@ -15,8 +14,9 @@ use Rattle.cs_paths.specs.declared.guide.Guide.{Guide}
 use Rattle.cs_paths.specs.Guides.{leaving_of, place_of, IsGuide}
 use Rattle.cs_paths.specs.Reaches.{reach_of, known_at}
 use Rattle.cs_paths.specs.Rows.{IsPairAt, IsRowOf}
-use Rattle.cs_paths.specs.Searches.{IsAsGood, Knows, along, IsRelaxed, HasPathWith, IsUpTo, is_settled, settled_count, IsFew, IsAhead, IsUndone, IsSearch, IsSettled, IsFresh}
-use Rattle.cs_paths.proofs.SearchLemmas.{as_good_itself, as_good_then, as_good_on, up_to_then, contains_first, contains_more, contains_either, known_set_same, known_set_other}
+use Rattle.cs_paths.specs.Searches.{IsAsGood, Knows, along, IsRelaxed, HasPathWith, is_settled, settled_count, IsFew, IsAhead, IsUndone, IsSearch, IsSettled, IsFresh}
+use Rattle.cs_paths.specs.Waitings.{Queue, Waits, IsUpTo, IsAdded, Takes}
+use Rattle.cs_paths.proofs.SearchLemmas.{as_good_itself, as_good_then, as_good_on, up_to_then, known_set_same, known_set_other}
 
 -- ---- how many are settled
 
@@ -50,12 +50,6 @@ known_within [] v a known = absurd (none-some a known)
 known_within (r ∷ row) zero a known = omega arith
 known_within (r ∷ row) (suc v) a known = let rest = known_within row v a known in omega (arith, rest)
 
-all_contains : (P : ℕ × ℕ → Type 0) (xs : List (ℕ × ℕ)) (q : ℕ × ℕ) → All P xs → Contains xs q → P q
-all_contains P xs q all (j, low, is) = subst P is (all j q low)
-
-nothing_waits : (q : ℕ × ℕ) → Contains [] q → ⊥
-nothing_waits q (j, low, is) = omega (arith, low)
-
 nothing_undone : (f : ℕ) → IsUndone [] 0 f → ⊥
 nothing_undone f (j, low, there) = none-some f there
 
@@ -67,7 +61,7 @@ up_to_from_none k = elim (cases_lt 0 k.0) [
 
 -- all edges of the list are relaxed
 pub all_done : (g : Graph) (delays : Delays) (guide : Guide) (u : ℕ) (last : ℕ × ℕ) (edges : List ℕ) (k : ℕ)
-    (row : List Reach) (settled : List Bool) (waiting : List (ℕ × ℕ)) → length edges ≤ k
+    (row : List Reach) (settled : List Bool) (waiting : Queue) → length edges ≤ k
     → IsSearch g delays guide u last edges k row settled waiting
     → IsSearch g delays guide u last [] 0 row settled waiting
 all_done g delays guide u last edges k row settled waiting all is = record {
@@ -84,16 +78,17 @@ all_done g delays guide u last edges k row settled waiting all is = record {
   ahead = is.ahead;
   later = is.later;
   places = is.places;
+  light = is.light;
   few = is.few;
 }
 
 module _ (g : Graph) (delays : Delays) (guide : Guide) (guides : IsGuide g guide) (u : ℕ) where
   -- ---- a search begins
 
-  module _ (blank : List Reach) (r : Reach) (waiting : List (ℕ × ℕ)) (low : u < length g.vertices)
+  module _ (blank : List Reach) (r : Reach) (empty waiting : Queue) (low : u < length g.vertices)
       (count : length blank ≡ length g.vertices) (none : (v : ℕ) → known_at blank v ≡ None)
       (is : reach_of r ≡ Some (0, vertex_delay delays u)) (quick : vertex_delay delays u ≤ 1000000)
-      (moves : IsPermutation ((0, place_of guide u) ∷ []) waiting) where
+      (idle : (k : ℕ × ℕ) → Waits empty k → ⊥) (added : IsAdded (0, place_of guide u) empty waiting) where
     first_known : known_at (set blank u r) u ≡ Some (0, vertex_delay delays u)
     first_known = known_set_same blank u r (omega (arith, low, count)) ∙ is
 
@@ -108,13 +103,8 @@ module _ (g : Graph) (delays : Delays) (guide : Guide) (guides : IsGuide g guide
       | inr away ↦ absurd (none-some a (sym (none v) ∙ sym (known_set_other blank u v r away) ∙ known))
     ]
 
-    only_waits : (q : ℕ × ℕ) → Contains waiting q → q ≡ (0, place_of guide u)
-    only_waits q h = elim (contains_either (0, place_of guide u) [] q
-        (Contains-permutation waiting ((0, place_of guide u) ∷ []) q
-        (IsPermutation-sym ((0, place_of guide u) ∷ []) waiting moves) h)) [
-          | inl same ↦ same
-          | inr never ↦ absurd (nothing_waits q never)
-        ]
+    only_waits : (q : ℕ × ℕ) → Waits waiting q → q ≡ (0, place_of guide u)
+    only_waits q h = elim (added.only q h) [ inl same ↦ same | inr never ↦ absurd (idle q never) ]
 
     not_settled : (v : ℕ) → is_settled (replicate (length g.vertices) false) v ≡ true → ⊥
     not_settled v flag =
@@ -139,10 +129,9 @@ module _ (g : Graph) (delays : Delays) (guide : Guide) (guides : IsGuide g guide
       };
       waits = λ v a known flag.
           let which = only_first v a known in
-          subst (λ (b : ℕ × ℕ). Contains waiting (b.0, place_of guide v)) which.1
-          (subst (λ n. Contains waiting (0, place_of guide n)) (sym which.0)
-          (Contains-permutation ((0, place_of guide u) ∷ []) waiting (0, place_of guide u) moves
-          (contains_first (0, place_of guide u) [])));
+          subst (λ (b : ℕ × ℕ). Waits waiting (b.0, place_of guide v)) which.1
+          (subst (λ n. Waits waiting (0, place_of guide n)) (sym which.0)
+          added.now);
       relaxed = λ e d found flag. absurd (not_settled d.from flag);
       ahead = λ v flag. absurd (not_settled v flag);
       later = λ q h. up_to_from_none q;
@@ -152,6 +141,8 @@ module _ (g : Graph) (delays : Delays) (guide : Guide) (guides : IsGuide g guide
           let ordered = guides.ordered in
           let place = ap (λ (p : ℕ × ℕ). p.1) same in
           omega (arith, within, ordered, place);
+      light = λ q h.
+          let none = ap (λ (p : ℕ × ℕ). p.0) (only_waits q h) in omega (arith, none);
       few = λ v a known.
           let which = only_first v a known in
           subst (IsFew (settled_count (replicate (length g.vertices) false))) which.1
@@ -160,18 +151,13 @@ module _ (g : Graph) (delays : Delays) (guide : Guide) (guides : IsGuide g guide
 
   -- ---- the first that waits is taken
 
-  module _ (last : ℕ × ℕ) (row : List Reach) (settled : List Bool) (waiting waiting' : List (ℕ × ℕ)) (k : ℕ × ℕ)
+  module _ (last : ℕ × ℕ) (row : List Reach) (settled : List Bool) (waiting waiting' : Queue) (k : ℕ × ℕ)
       (v : ℕ) (is : IsSearch g delays guide u last [] 0 row settled waiting)
-      (moves : IsPermutation waiting (k ∷ waiting')) (at : slice_get guide.order k.1 ≡ Some v) where
-    still : (q : ℕ × ℕ) → Contains waiting' q → Contains waiting q
-    still q h = Contains-permutation (k ∷ waiting') waiting q (IsPermutation-sym waiting (k ∷ waiting') moves)
-        (contains_more k waiting' q h)
-
+      (takes : Takes k waiting waiting') (at : slice_get guide.order k.1 ≡ Some v) where
     -- what waits is taken, and then it is v, or waits still
     taken_or_waits : (w : ℕ) (a : ℕ × ℕ) → known_at row w ≡ Some a → is_settled settled w ≡ false
-        → ((w ≡ v) × (a.0 ≡ k.0)) ⊎ Contains waiting' (a.0, place_of guide w)
-    taken_or_waits w a known flag = elim (contains_either k waiting' (a.0, place_of guide w)
-        (Contains-permutation waiting (k ∷ waiting') (a.0, place_of guide w) moves (is.waits w a known flag))) [
+        → ((w ≡ v) × (a.0 ≡ k.0)) ⊎ Waits waiting' (a.0, place_of guide w)
+    taken_or_waits w a known flag = elim (takes.rest (a.0, place_of guide w) (is.waits w a known flag)) [
           | inl same ↦
               let within = known_within row w a known in
               let count = is.reaches in
@@ -199,13 +185,14 @@ module _ (g : Graph) (delays : Delays) (guide : Guide) (guides : IsGuide g guide
       ];
       relaxed = is.relaxed;
       ahead = is.ahead;
-      later = λ q h. is.later q (still q h);
-      places = λ q h. is.places q (still q h);
+      later = λ q h. is.later q (takes.still q h);
+      places = λ q h. is.places q (takes.still q h);
+      light = λ q h. is.light q (takes.still q h);
       few = is.few;
     }
 
     -- it is settled
-    module _ (first : All (IsUpTo k) waiting') (delay : ℕ) (fresh : IsFresh row settled v (k.0, delay)) where
+    module _ (delay : ℕ) (fresh : IsFresh row settled v (k.0, delay)) where
       v_low : v < length g.vertices
       v_low = (guides.once k.1 v at).0
 
@@ -228,8 +215,7 @@ module _ (g : Graph) (delays : Delays) (guide : Guide) (guides : IsGuide g guide
 
       last_then : IsUpTo last (k.0, place_of guide v)
       last_then = subst (λ n. IsUpTo last (k.0, n)) (sym place_is)
-          (is.later k (Contains-permutation (k ∷ waiting') waiting k (IsPermutation-sym waiting (k ∷ waiting') moves)
-          (contains_first k waiting')))
+          (is.later k takes.taken)
 
       count_now : settled_count (set settled v true) ≡ 1 + settled_count settled
       count_now = settled_more settled v flag_low fresh.waits
@@ -278,8 +264,10 @@ module _ (g : Graph) (delays : Delays) (guide : Guide) (guides : IsGuide g guide
                 up_to = up_to_then (old.reach.0, place_of guide w) last (k.0, place_of guide v) old.up_to last_then;
               }
         ];
-        later = λ q h. subst (λ n. IsUpTo (k.0, n) q) (sym place_is) (all_contains (IsUpTo k) waiting' q first h);
-        places = λ q h. is.places q (still q h);
+        later = λ q h. subst (λ n. IsUpTo (k.0, n) q) (sym place_is) (takes.first q h);
+        places = λ q h. is.places q (takes.still q h);
+        light = λ q h.
+            let one = is.light q (takes.still q h) in let count = count_now in omega (arith, one, count);
         few = λ w a known.
             let few = is.few w a known in
             let count = count_now in
@@ -288,13 +276,13 @@ module _ (g : Graph) (delays : Delays) (guide : Guide) (guides : IsGuide g guide
 
   -- ---- nothing waits
 
-  module _ (last : ℕ × ℕ) (row : List Reach) (settled : List Bool)
-      (is : IsSearch g delays guide u last [] 0 row settled []) where
+  module _ (last : ℕ × ℕ) (row : List Reach) (settled : List Bool) (waiting : Queue)
+      (idle : (k : ℕ × ℕ) → Waits waiting k → ⊥) (is : IsSearch g delays guide u last [] 0 row settled waiting) where
     -- every vertex of which something is known is settled
     all_settled : (v : ℕ) (a : ℕ × ℕ) → known_at row v ≡ Some a → is_settled settled v ≡ true
     all_settled v a known = elim (cases_Bool (is_settled settled v)) [
       | inl flag ↦ flag
-      | inr flag ↦ absurd (nothing_waits _ (is.waits v a known flag))
+      | inr flag ↦ absurd (idle _ (is.waits v a known flag))
     ]
 
     all_relaxed : (e : ℕ) (d : Edge) → slice_get g.edges e ≡ Some d → IsRelaxed delays row d

@@ -1,6 +1,7 @@
 pub mod Reaches
 pub mod Guides
-pub mod Searches
+pub mod Marks
 pub mod Waitings
+pub mod Searches
 pub mod Rows
 pub mod Traces

@@ -1,6 +1,5 @@
 -- A search from one vertex: what it knows of each vertex, which vertices are settled, and which wait.
-use Rattle.std.specs.Prelude.{◌≡◌, ℕ, ◌+◌, ◌*◌, ◌<◌, ◌≤◌, ◌⊎◌, Bool, true, false, List, [], ◌∷◌, length, get_or, slice_get, Option, Some, None, Contains, IsPermutation, set}
-use Rattle.std.specs.List.{sum_by}
+use Rattle.std.specs.Prelude.{◌≡◌, ℕ, ◌+◌, ◌*◌, ◌<◌, ◌≤◌, ◌⊎◌, Bool, true, false, List, [], ◌∷◌, length, get_or, slice_get, Option, Some, None, Contains, set}
 use Rattle.cs_graph.specs.declared.delays.Delays.{Delays}
 use Rattle.cs_graph.specs.declared.edge.Edge.{Edge}
 use Rattle.cs_graph.specs.declared.graph.Graph.{Graph}
@@ -11,6 +10,7 @@ use Rattle.cs_paths.specs.declared.improvement.Improvement.{Improvement}
 use Rattle.cs_paths.specs.declared.improvement.Improvement.TheVariants.{Nothing, Delay, Weight}
 use Rattle.cs_paths.specs.Guides.{leaving_of, place_of}
 use Rattle.cs_paths.specs.Reaches.{reach_of, known_at}
+use Rattle.cs_paths.specs.Waitings.{Queue, Waits, IsUpTo, IsAdded}
 
 -- ---- registers and delays
 
@@ -39,11 +39,7 @@ pub record HasPathWith (g : Graph) (delays : Delays) (u v : ℕ) (a : ℕ × ℕ
   pub weighs : path_weight g path ≡ a.0
   pub is : path_delay g delays u path ≡ a.1
 
--- ---- the queue
-
--- fewer registers, or as many and no later a place
-abbrev pub IsUpTo : ℕ × ℕ → ℕ × ℕ → Type 0
-IsUpTo a b = (a.0 < b.0) ⊎ ((a.0 ≡ b.0) × (a.1 ≤ b.1))
+-- ---- settled vertices
 
 -- whether a vertex is settled
 abbrev pub is_settled : List Bool → ℕ → Bool
@@ -72,18 +68,19 @@ IsUndone edges done e = (j : ℕ) × (done ≤ j) × (slice_get edges j ≡ Some
 -- a search from u that has settled vertices up to `last` in the queue's order; of the edges that leave them, those
 -- from a place on are yet to be relaxed
 pub record IsSearch (g : Graph) (delays : Delays) (guide : Guide) (u : ℕ) (last : ℕ × ℕ) (edges : List ℕ) (done : ℕ)
-    (row : List Reach) (settled : List Bool) (waiting : List (ℕ × ℕ)) : Type 0 where
+    (row : List Reach) (settled : List Bool) (waiting : Queue) : Type 0 where
   pub reaches : length row ≡ length g.vertices
   pub flags : length settled ≡ length g.vertices
   pub attained : (v : ℕ) (a : ℕ × ℕ) → known_at row v ≡ Some a → HasPathWith g delays u v a
   pub begins : Knows row u (0, vertex_delay delays u)
   pub waits : (v : ℕ) (a : ℕ × ℕ) → known_at row v ≡ Some a → is_settled settled v ≡ false
-      → Contains waiting (a.0, place_of guide v)
+      → Waits waiting (a.0, place_of guide v)
   pub relaxed : (e : ℕ) (d : Edge) → slice_get g.edges e ≡ Some d → is_settled settled d.from ≡ true
       → IsUndone edges done e ⊎ IsRelaxed delays row d
   pub ahead : (v : ℕ) → is_settled settled v ≡ true → IsAhead guide last row v
-  pub later : (k : ℕ × ℕ) → Contains waiting k → IsUpTo last k
-  pub places : (k : ℕ × ℕ) → Contains waiting k → k.1 < length g.vertices
+  pub later : (k : ℕ × ℕ) → Waits waiting k → IsUpTo last k
+  pub places : (k : ℕ × ℕ) → Waits waiting k → k.1 < length g.vertices
+  pub light : (k : ℕ × ℕ) → Waits waiting k → k.0 ≤ settled_count settled * 65536
   pub few : (v : ℕ) (a : ℕ × ℕ) → known_at row v ≡ Some a → IsFew (settled_count settled) a
 
 -- v is settled, with what is known of it, and what is a step further is still few
@@ -92,16 +89,6 @@ pub record IsSettled (v : ℕ) (from : ℕ × ℕ) (row : List Reach) (settled :
   pub is : is_settled settled v ≡ true
   pub weight : from.0 + 65536 ≤ settled_count settled * 65536
   pub delay : from.1 ≤ settled_count settled * 1000000
-
--- ---- how far a search may still go
-
--- how many registers what is known of a vertex may still lose
-abbrev pub slack : Reach → ℕ
-slack r = r.weight
-
--- how often the queue may still be asked, at most
-abbrev pub work : List Reach → List (ℕ × ℕ) → ℕ
-work row waiting = length waiting + 2 * sum_by slack row
 
 -- ---- one edge
 
@@ -131,17 +118,16 @@ pub record IsLowered (v : ℕ) (new : ℕ × ℕ) (row row' : List Reach) : Type
 
 -- what is new of v is kept where it is better: as good is known, or the delay is raised, or the registers are
 -- lowered, for which v waits at its place
-abbrev pub Improves : ℕ → ℕ → ℕ × ℕ → List Reach → List (ℕ × ℕ) → List Reach → List (ℕ × ℕ) → Type 0
+abbrev pub Improves : ℕ → ℕ → ℕ × ℕ → List Reach → Queue → List Reach → Queue → Type 0
 Improves v place new row waiting row' waiting' =
     (Knows row v new × (row' ≡ row) × (waiting' ≡ waiting))
     ⊎ ((IsRaised v new row row' × (waiting' ≡ waiting))
-    ⊎ (IsLowered v new row row' × IsPermutation ((new.0, place) ∷ waiting) waiting'))
+    ⊎ (IsLowered v new row row' × IsAdded (new.0, place) waiting waiting'))
 
 -- ---- one vertex
 
 -- the edges that leave v are relaxed: a search that has settled v, the last so far, goes on with them done
-abbrev pub Settles : Graph → Delays → Guide → ℕ → ℕ × ℕ → List Reach → List (ℕ × ℕ) → List Reach → List (ℕ × ℕ)
-    → Type 0
+abbrev pub Settles : Graph → Delays → Guide → ℕ → ℕ × ℕ → List Reach → Queue → List Reach → Queue → Type 0
 Settles g delays guide v from row waiting row' waiting' =
     (u : ℕ) (settled : List Bool) → IsSettled v from row settled
     → IsSearch g delays guide u (from.0, place_of guide v) (leaving_of guide.leaving v) 0 row settled waiting

@@ -1,6 +1,7 @@
 // Improvement of what is known of a vertex: fewer registers, or as many and a greater delay.
-ghost use Rattle.std.specs.Prelude.{◌≡◌, ◌+◌, ◌<◌, ◌^◌, OnOk, length};
+ghost use Rattle.std.specs.Prelude.{◌≡◌, ◌<◌, OnOk, length};
 ghost use Rattle.cs_paths.specs.Searches.{Improves, Tells};
+ghost use Rattle.cs_paths.specs.Waitings.{CanWait};
 
 use crate::reach::Reach;
 use crate::waiting::Waiting;
@@ -44,7 +45,7 @@ pub(crate) fn improve(
     new: (u32, u32),
 ) -> Result<(), AllocError>
     requires vertex { v < length row.old }
-    requires few { new.0 + 1 < 2 ^ 32 }
+    requires waits { CanWait waiting.old (new.0, place) }
     ensures count { length row.new ≡ length row.old }
     ensures improves { OnOk result (Improves v place new row.old waiting.old row.new waiting.new) }
 {

@@ -2,9 +2,11 @@
 //! for each pin, computed in pieces by threads.
 #![tactic(auto)]
 
+mod bucket;
 mod gate;
 mod guide;
 mod improvement;
+mod marking;
 mod matrix;
 mod reach;
 mod row;

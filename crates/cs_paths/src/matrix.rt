@@ -11,6 +11,7 @@ use crate::guide::Guide;
 use crate::reach::Reach;
 use crate::row::row_of;
 use crate::tracing::Rows;
+use crate::waiting::Waiting;
 use cs_base::{Sequence, VertexId};
 use cs_graph::{Delays, Machine};
 use std::alloc::{AllocError, Global};
@@ -116,8 +117,10 @@ fn piece(
 {
     machine.keeps();
     let mut rows = Vec::new(alloc);
+    let mut waiting = Waiting::new(alloc);
     for u in first..first + count {
-        rows.push(row_of(alloc, machine, delays, guide, VertexId::new(u))?)?;
+        let row = row_of(alloc, machine, delays, guide, VertexId::new(u), &mut waiting)?;
+        rows.push(row)?;
     }
     Ok(rows)
 }

@@ -1,12 +1,13 @@
 // The row of one vertex u: W(u, v) and D(u, v) for each vertex v (Leiserson and Saxe). The vertices are settled in
 // the order of their registers, and among those with as many in the machine's order; every edge that attains leads
 // to a later one in this order, so one search finds the least registers and the greatest delays together (Dijkstra).
-ghost use Rattle.std.specs.Prelude.{◌≡◌, ◌+◌, ◌*◌, ◌<◌, ◌≤◌, ◌^◌, ℕ, List, [], IfOk, None, OnOk, false, length, replicate, slice_get, Some};
+ghost use Rattle.std.specs.Prelude.{◌≡◌, ◌+◌, ◌*◌, ◌<◌, ◌≤◌, ◌^◌, ℕ, List, IfOk, None, OnOk, false, length, replicate, slice_get, Some};
 ghost use Rattle.cs_graph.specs.Period.{AreDelaysOf};
-ghost use Rattle.cs_paths.specs.Guides.{IsGuide};
+ghost use Rattle.cs_paths.specs.Guides.{IsGuide, place_of};
 ghost use Rattle.cs_paths.specs.Reaches.{known_at};
 ghost use Rattle.cs_paths.specs.Rows.{IsRowOf};
-ghost use Rattle.cs_paths.specs.Searches.{along, Settles, SettlesOne, work};
+ghost use Rattle.cs_paths.specs.Searches.{along, Settles, SettlesOne};
+ghost use Rattle.cs_paths.specs.Waitings.{Waits, position};
 
 use crate::guide::Guide;
 use crate::improvement::improve;
@@ -44,9 +45,11 @@ fn relax_from(
     requires row { length row.old ≡ length machine.now.vertices }
     requires weight { from.0 ≤ 4096 * 65536 }
     requires delay { from.1 ≤ 4096 * 1000000 }
+    requires level { waiting.old.level ≡ from.0 }
+    requires next { waiting.old.next ≡ place_of guide.now v + 1 }
     ensures count { length row.new ≡ length row.old }
     ensures settles { OnOk result (Settles machine.now delays.now guide.now v from row.old waiting.old row.new waiting.new) }
-    ensures work { OnOk result (work row.new waiting.new ≤ work row.old waiting.old) }
+    ensures position { OnOk result (position waiting.new ≡ position waiting.old) }
 {
     machine.keeps();
     let edges = guide.leaving(v);
@@ -74,7 +77,7 @@ fn settle(row: &[Reach], settled: &mut [bool], v: VertexId, weight: u32) -> Opti
     Some(delay)
 }
 
-/// Searches from u: afterwards the row is that of u.
+/// Searches from u: afterwards the row is that of u, and nothing waits.
 fn search(
     machine: &Machine,
     delays: &Delays,
@@ -90,13 +93,15 @@ fn search(
     requires count { length row.old ≡ length machine.now.vertices }
     requires blank { (v : ℕ) → known_at row.old v ≡ None }
     requires flags { settled.old ≡ replicate (length machine.now.vertices) false }
-    requires idle { waiting.old ≡ [] }
+    requires idle { (k : ℕ × ℕ) → Waits waiting.old k → ⊥ }
     ensures count { length row.new ≡ length row.old }
     ensures flags { length settled.new ≡ length settled.old }
     ensures row { OnOk result (IsRowOf machine.now delays.now u row.new) }
+    ensures idle { OnOk result ((k : ℕ × ℕ) → Waits waiting.new k → ⊥) }
 {
     machine.keeps();
     row[u.get() as usize] = Reach::some(0, delays.of_vertex(u));
+    waiting.restart();
     waiting.push(0, guide.place(u))?;
     while let Some((weight, place)) = waiting.pop() {
         let v = guide.vertex(place);
@@ -107,24 +112,26 @@ fn search(
     Ok(())
 }
 
-/// The row of u.
+/// The row of u, by a queue in which nothing waits before and after.
 pub(crate) fn row_of(
     alloc: Global,
     machine: &Machine,
     delays: &Delays,
     guide: &Guide,
     u: VertexId,
+    waiting: &mut Waiting,
 ) -> Result<Sequence<Reach>, AllocError>
     requires guide { IsGuide machine.now guide.now }
     requires delays { AreDelaysOf machine.now delays.now }
     requires vertex { u < length machine.now.vertices }
-    ensures { IfOk result (λ row. IsRowOf machine.now delays.now u row) }
+    requires idle { (k : ℕ × ℕ) → Waits waiting.old k → ⊥ }
+    ensures row { IfOk result (λ row. IsRowOf machine.now delays.now u row) }
+    ensures idle { OnOk result ((k : ℕ × ℕ) → Waits waiting.new k → ⊥) }
 {
     machine.keeps();
     let count = machine.vertex_count() as usize;
     let mut row = vec![in alloc; Reach::none(); count]?;
     let mut settled = vec![in alloc; false; count]?;
-    let mut waiting = Waiting::new(alloc);
     search(
         machine,
         delays,
@@ -132,7 +139,7 @@ pub(crate) fn row_of(
         u,
         &mut row,
         &mut settled,
-        &mut waiting,
+        waiting,
     )?;
     Ok(Sequence::from_vec(row))
 }

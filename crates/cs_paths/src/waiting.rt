@@ -1,60 +1,131 @@
-// The vertices that wait to be looked at, the one with the fewest registers and then the earliest place first.
-ghost use Rattle.std.specs.Prelude.{◌≡◌, [], ◌∷◌, All, IfNone, IfSome, OnOk, IsPermutation};
-ghost use Rattle.std.specs.BinaryHeap.{IsHeap, heap_items};
-ghost use Rattle.cs_paths.specs.Searches.{IsUpTo};
-ghost use Rattle.cs_paths.specs.Waitings.{later};
+// The vertices that wait to be looked at, the one with the fewest registers and then the earliest place first. What
+// comes to wait never comes before what has been taken, so those with more registers than the last one taken wait
+// in no order, by their registers (Dial's buckets), and only those with as many are kept by their place.
+ghost use Rattle.std.specs.Prelude.{◌≡◌, ℕ, ◌+◌, ◌<◌, ◌^◌, [], get_or, length, IfNone, IfSome, OnOk};
+ghost use Rattle.std.specs.Bool.{OnTrue, OnFalse};
+ghost use Rattle.cs_paths.specs.Marks.{IsMarked};
+ghost use Rattle.cs_paths.specs.Waitings.{Advances, AreLow, CanWait, Gathers, IsAdded, Takes, Waits};
 
+use crate::bucket::Bucket;
+use crate::marking::Marks;
 use std::alloc::{AllocError, Global};
-use std::cmp::Reverse;
-use std::collections::BinaryHeap;
 use std::marker::Model;
 
-/// A queue of vertices, each as the registers of a path to it and its place in the machine's order. Contracts see
-/// the list of them, in no order.
+/// A queue of vertices, each as the registers of a path to it and its place in the machine's order.
 #[derive(Drop)]
 pub struct Waiting {
-    heap: BinaryHeap<Reverse<(u32, u32)>>,
+    alloc: Global,
+    level: u32,
+    next: u32,
+    marks: Marks,
+    later: Vec<Bucket>,
 }
 
 impl Model for Waiting {
-    ghost use Rattle.std.specs.Prelude.{ℕ, List};
-    ghost use Rattle.std.specs.BinaryHeap.{IsHeap, heap_items};
-    ghost use Rattle.cs_paths.specs.Waitings.{keys, later};
+    ghost use Rattle.cs_paths.specs.Waitings.{IsQueue, Queue, queue};
 
-    ghost Value = { List (ℕ × ℕ) };
+    ghost Value = { Queue };
 
-    ghost view = { λ w. keys (heap_items w.heap) };
+    ghost view = { λ w. queue w.level w.next w.marks w.later.items };
 
-    ghost invariant = { λ w. IsHeap later (heap_items w.heap) };
+    ghost invariant = { λ w. IsQueue (queue w.level w.next w.marks w.later.items) };
+}
+
+/// Makes room for those that wait with so many registers.
+fn lengthen(alloc: Global, later: &mut Vec<Bucket>, weight: u32) -> Result<(), AllocError>
+    requires weight { weight + 1 < 2 ^ 32 }
+    requires levels { length later.old.items < 2 ^ 32 }
+    ensures same { (w : ℕ) → get_or later.new.items w [] ≡ get_or later.old.items w [] }
+    ensures levels { length later.new.items < 2 ^ 32 }
+    ensures long { OnOk result (weight < length later.new.items) }
+{
+    while later.len() <= weight as usize {
+        later.push(Bucket::new(alloc))?;
+    }
+    Ok(())
+}
+
+/// Marks the places of a bucket, which is empty then.
+fn gather(bucket: &mut Bucket, marks: &mut Marks)
+    requires { AreLow bucket.old }
+    ensures empty { bucket.new ≡ [] }
+    ensures gathers { Gathers bucket.old marks.old marks.new }
+{
+    while let Some(place) = bucket.pop() {
+        marks.add(place);
+    }
 }
 
 impl Waiting {
     /// Nothing waits; it takes no memory.
     pub(crate) fn new(alloc: Global) -> Waiting
-        ensures { result ≡ [] }
+        ensures { (k : ℕ × ℕ) → Waits result k → ⊥ }
     {
         Waiting {
-            heap: BinaryHeap::new(alloc),
+            alloc,
+            level: 0,
+            next: 0,
+            marks: Marks::new(),
+            later: Vec::new(alloc),
         }
     }
 
-    /// One more waits, unless memory runs out.
-    pub(crate) fn push(&mut self, weight: u32, place: u32) -> Result<(), AllocError>
-        ensures { OnOk result (IsPermutation ((weight, place) ∷ self.old) self.new) }
+    /// Begins anew where nothing waits.
+    pub(crate) fn restart(&mut self)
+        requires { (k : ℕ × ℕ) → Waits self.old k → ⊥ }
+        ensures idle { (k : ℕ × ℕ) → Waits self.new k → ⊥ }
+        ensures level { self.new.level ≡ 0 }
+        ensures next { self.new.next ≡ 0 }
     {
-        self.heap.push(Reverse((weight, place)))?;
+        self.level = 0;
+        self.next = 0;
+    }
+
+    /// One more waits, unless memory runs out. It comes no earlier than what has been taken.
+    pub(crate) fn push(&mut self, weight: u32, place: u32) -> Result<(), AllocError>
+        requires { CanWait self.old (weight, place) }
+        ensures { OnOk result (IsAdded (weight, place) self.old self.new) }
+    {
+        if weight == self.level {
+            self.marks.add(place);
+            return Ok(());
+        }
+        lengthen(self.alloc, &mut self.later, weight)?;
+        self.later[weight as usize].push(place)?;
         Ok(())
+    }
+
+    /// Goes on to those that wait with a register more, where none waits with as many; false where nothing waits.
+    fn advance(&mut self) -> bool
+        requires { (p : ℕ) → IsMarked self.old.marks p → ⊥ }
+        ensures yes { OnTrue result (Advances self.old self.new) }
+        ensures no { OnFalse result ((k : ℕ × ℕ) → Waits self.old k → ⊥) }
+        ensures same { OnFalse result (self.new ≡ self.old) }
+    {
+        let above = self.level as usize + 1;
+        if above >= self.later.len() {
+            return false;
+        }
+        self.level += 1;
+        self.next = 0;
+        gather(&mut self.later[above], &mut self.marks);
+        true
     }
 
     /// Takes the first, if one waits.
     pub(crate) fn pop(&mut self) -> Option<(u32, u32)>
-        ensures taken { IfSome result (λ k. IsPermutation self.old (k ∷ self.new)) }
-        ensures first { IfSome result (λ k. All (IsUpTo k) self.new) }
-        ensures none { IfNone result (self.old ≡ []) }
+        ensures some { IfSome result (λ k. Takes k self.old self.new) }
+        ensures none { IfNone result ((k : ℕ × ℕ) → Waits self.old k → ⊥) }
+        ensures idle { IfNone result ((k : ℕ × ℕ) → Waits self.new k → ⊥) }
     {
-        match self.heap.pop() {
-            Some(Reverse(first)) => Some(first),
-            None => None,
+        loop {
+            if let Some(place) = self.marks.take_first() {
+                self.next = place + 1;
+                return Some((self.level, place));
+            }
+            if !self.advance() {
+                return None;
+            }
         }
     }
 }

@@ -1,7 +1,7 @@
 -- The first edges that leave the vertex are relaxed.
-use Rattle.std.proofs.Common.{◌≡◌, ◌≤◌, ℕ, Bool, List, length}
+use Rattle.std.proofs.Common.{◌≡◌, ℕ, Bool, List, length}
 use Rattle.cs_paths.specs.Guides.{leaving_of, place_of}
-use Rattle.cs_paths.specs.Searches.{IsSearch, IsSettled, work}
+use Rattle.cs_paths.specs.Searches.{IsSearch, IsSettled}
 use Rattle.cs_paths.proofs.row.relax_from.Given as goal
 
 abbrev pub invariant-loop-turn : goal.invariant-loop-turn
@@ -12,5 +12,6 @@ invariant-loop-turn l = record {
       l.initial.row settled l.initial.waiting
       → IsSearch l.machine l.delays l.guide u (l.from.0, place_of l.guide l.fn.v) (leaving_of l.guide.leaving l.fn.v) l.turn
       l.row settled l.waiting × IsSettled l.fn.v l.from l.row settled;
-  work : work l.row l.waiting ≤ work l.initial.row l.initial.waiting;
+  level : l.waiting.level ≡ l.initial.waiting.level;
+  next : l.waiting.next ≡ l.initial.waiting.next;
 }

@@ -1,7 +1,7 @@
 -- A search goes on, and has less to do.
-use Rattle.std.proofs.Common.{◌≡◌, length}
-use Rattle.cs_paths.specs.Searches.{work}
-use Rattle.cs_paths.proofs.RoundLemmas.{Searches}
+use Rattle.std.proofs.Common.{◌≡◌, ◌-◌, length}
+use Rattle.cs_paths.specs.Waitings.{position}
+use Rattle.cs_paths.proofs.RoundLemmas.{Searches, most_position}
 use Rattle.cs_paths.proofs.row.search.Given as goal
 
 abbrev pub invariant-loop-weight : goal.invariant-loop-weight
@@ -12,4 +12,4 @@ invariant-loop-weight l = record {
 }
 
 abbrev pub decreases-loop-weight : goal.decreases-loop-weight
-decreases-loop-weight l = work l.row l.waiting
+decreases-loop-weight l = most_position - position l.waiting

@@ -1,0 +1,9 @@
+-- The place of the lowest 1.
+use Rattle.std.specs.Int.{w64}
+use Rattle.std.proofs.lemmas.Nat.Bits.{bit_at-trailing_zeros}
+use Rattle.cs_paths.proofs.marking.lowest.Goals as goal
+
+pub returns : goal.returns
+returns c =
+    let lowest = bit_at-trailing_zeros w64 c.args.word c.requires c.ranges.word.fits in
+    record { within = lowest.0; set = lowest.1; none = lowest.2 }
