@@ -158,14 +158,14 @@ module _ (g : Graph) (delays : Delays) (guide : Guide) (guides : IsGuide g guide
     taken_or_waits : (w : ℕ) (a : ℕ × ℕ) → known_at row w ≡ Some a → is_settled settled w ≡ false
         → ((w ≡ v) × (a.0 ≡ k.0)) ⊎ Waits waiting' (a.0, place_of guide w)
     taken_or_waits w a known flag = elim (takes.rest (a.0, place_of guide w) (is.waits w a known flag)) [
-          | inl same ↦
-              let within = known_within row w a known in
-              let count = is.reaches in
-              let here = guides.at w (omega (arith, within, count)) in
-              let place = ap (λ (p : ℕ × ℕ). p.1) same in
-              inl (same_Some w v (sym here ∙ ap (slice_get guide.order) place ∙ at), ap (λ (p : ℕ × ℕ). p.0) same)
-          | inr rest ↦ inr rest
-        ]
+      | inl same ↦
+          let within = known_within row w a known in
+          let count = is.reaches in
+          let here = guides.at w (omega (arith, within, count)) in
+          let place = ap (λ (p : ℕ × ℕ). p.1) same in
+          inl (same_Some w v (sym here ∙ ap (slice_get guide.order) place ∙ at), ap (λ (p : ℕ × ℕ). p.0) same)
+      | inr rest ↦ inr rest
+    ]
 
     -- it was settled before, or waits with more registers than are known
     pub passed_over : ((delay : ℕ) → IsFresh row settled v (k.0, delay) → ⊥)

@@ -1,11 +1,11 @@
 -- The queue: one more waits, those with a register more come first, and the first is taken.
-use Rattle.std.proofs.Common.{◌≡◌, ◌≢◌, ◌⊎◌, ℕ, zero, suc, ◌+◌, ◌*◌, ◌<◌, ◌≤◌, ◌^◌, List, [], ◌∷◌, ◌++◌, length, set, get_or, refl, sym, ap, ap₂, subst, ◌∙◌, inl, inr, arith}
+use Rattle.std.proofs.Common.{◌≡◌, ◌≢◌, ◌⊎◌, ℕ, zero, suc, ◌+◌, ◌<◌, ◌≤◌, ◌^◌, List, [], ◌∷◌, ◌++◌, length, set, get_or, refl, sym, ap, ap₂, subst, ◌∙◌, inl, inr, arith}
 use Rattle.std.specs.Prelude.{Contains}
-use Rattle.std.proofs.lemmas.Bool.{cases_eq, cases_lt}
+use Rattle.std.proofs.lemmas.Bool.{cases_eq}
 use Rattle.std.proofs.lemmas.List.{get_or-set_same, get_or-set_other, length-set}
 use Rattle.std.proofs.lemmas.List.Elements.{Contains-push, Contains-push_cases, Contains-append_left}
 use Rattle.cs_paths.specs.Marks.{IsMarked, AddsMark, TakesMark}
-use Rattle.cs_paths.specs.Waitings.{Queue, queue, bucket_of, Waits, IsQueue, IsUpTo, position, CanWait, IsAdded, Takes, AreLow, Gathers, Advances}
+use Rattle.cs_paths.specs.Waitings.{Queue, queue, bucket_of, Waits, IsQueue, position, CanWait, IsAdded, Takes, AreLow, Gathers, Advances}
 
 -- ---- lists
 

@@ -119,7 +119,14 @@ fn piece(
     let mut rows = Vec::new(alloc);
     let mut waiting = Waiting::new(alloc);
     for u in first..first + count {
-        let row = row_of(alloc, machine, delays, guide, VertexId::new(u), &mut waiting)?;
+        let row = row_of(
+            alloc,
+            machine,
+            delays,
+            guide,
+            VertexId::new(u),
+            &mut waiting,
+        )?;
         rows.push(row)?;
     }
     Ok(rows)

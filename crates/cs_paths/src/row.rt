@@ -132,14 +132,6 @@ pub(crate) fn row_of(
     let count = machine.vertex_count() as usize;
     let mut row = vec![in alloc; Reach::none(); count]?;
     let mut settled = vec![in alloc; false; count]?;
-    search(
-        machine,
-        delays,
-        guide,
-        u,
-        &mut row,
-        &mut settled,
-        waiting,
-    )?;
+    search(machine, delays, guide, u, &mut row, &mut settled, waiting)?;
     Ok(Sequence::from_vec(row))
 }

@@ -1,5 +1,5 @@
 -- Round by round.
-use Rattle.std.proofs.Common.{Bool, List, refl, sym, subst, ◌∙◌, arith}
+use Rattle.std.proofs.Common.{Bool, List, refl, sym, subst, ◌∙◌}
 use Rattle.std.proofs.lemmas.List.{length-set}
 use Rattle.cs_paths.proofs.RoundLemmas.{Searches, round_begins, taken_low, row_low, flag_low, fresh_few, round_passes, round_settles, round_works, round_ends}
 use Rattle.cs_paths.proofs.row.search.Goals as goal

@@ -1,5 +1,5 @@
 -- One place more.
-use Rattle.cs_paths.proofs.WaitingLemmas.{gathering_low, gathering_on, gathering_ends}
+use Rattle.cs_paths.proofs.WaitingLemmas.{gathering_low, gathering_on}
 use Rattle.cs_paths.proofs.waiting.gather.Goals as goal
 
 pub add-requires : goal.add-requires

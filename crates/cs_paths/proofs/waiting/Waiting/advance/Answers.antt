@@ -1,5 +1,5 @@
 -- The next bucket.
-use Rattle.std.proofs.Common.{◌≡◌, ◌+◌, ◌<◌, ◌≤◌, ℕ, List, [], length, set, sym, subst, ◌∙◌, arith}
+use Rattle.std.proofs.Common.{◌≡◌, ◌+◌, ◌<◌, ℕ, List, [], length, set, sym, subst, ◌∙◌, arith}
 use Rattle.cs_paths.specs.Marks.{IsMarked}
 use Rattle.cs_paths.specs.Waitings.{Queue, queue, bucket_of, AreLow, Gathers, Advances}
 use Rattle.cs_paths.proofs.DefaultLemmas.{get_or_default}
