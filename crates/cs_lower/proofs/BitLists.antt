@@ -5,7 +5,6 @@ use Rattle.std.specs.List.{list_any}
 use Rattle.std.proofs.lemmas.Bool.{cases_Bool, eq-eqb, eqb-true, or_left, or_right}
 use Rattle.std.proofs.lemmas.List.Quantifiers.{position-Some}
 use Rattle.std.proofs.lemmas.Option.{get_or_from_slice_get, none-some, same_Some}
-use Rattle.indexmap.specs.IndexSet.{insert_key}
 use Rattle.cs_net.proofs.Members.{within_has}
 
 -- ---- two lists in a row, and a list so far
@@ -68,12 +67,6 @@ get_below (x ∷ xs) (suc i) c at = omega (arith, get_below xs i c at)
 pub take_front : (xs ys : List ℕ) → take (length xs) (xs ++ ys) ≡ xs
 take_front [] ys = refl
 take_front (x ∷ xs) ys = ap (λ rest. x ∷ rest) (take_front xs ys)
-
--- ---- a number in a set
-
--- a number that a set lacks goes last
-pub inserted : (bits : List ℕ) (b : ℕ) → list_any (nat_eq b) bits ≡ false → insert_key nat_eq bits b ≡ bits ++ b ∷ []
-inserted bits b lacks = ap (λ t. cond t bits (bits ++ b ∷ [])) lacks
 
 -- ---- a number found at a place
 

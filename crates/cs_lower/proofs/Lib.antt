@@ -63,3 +63,4 @@ mod FewReads
 mod PushedPorts
 pub mod NextMemories
 pub mod MachineParts
+pub mod PlaceLemmas

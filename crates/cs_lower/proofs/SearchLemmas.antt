@@ -1,9 +1,11 @@
 -- Steps of the search for rings.
-use Rattle.std.specs.Prelude.{nat_eq, ◌==◌, ◌⊎◌, slice_get}
-use Rattle.std.proofs.Common.{◌≡◌, ℕ, zero, suc, ◌+◌, ◌-◌, ◌<◌, ◌≤◌, Bool, true, false, cond, List, [], ◌∷◌, ◌++◌, drop, take, length, Some, refl, sym, ap, subst, ◌∙◌, arith, inl, inr, append_assoc, length-append}
+use Rattle.std.specs.Prelude.{nat_eq, ◌==◌, ◌||◌, ◌⊎◌, slice_get}
+use Rattle.std.proofs.Common.{◌≡◌, ℕ, zero, suc, ◌+◌, ◌-◌, ◌<◌, ◌≤◌, Bool, true, false, cond, List, [], ◌∷◌, ◌++◌, drop, take, get_or, length, Some, refl, sym, ap, subst, ◌∙◌, arith, inl, inr, append_assoc, length-append}
 use Rattle.std.specs.List.{IsDistinct, list_any}
 use Rattle.std.proofs.lemmas.Bool.{eq-eqb, eqb-true}
 use Rattle.std.proofs.lemmas.Cmp.{nat_eq_equiv}
+use Rattle.std.proofs.lemmas.Grind.{common_steps}
+use Rattle.std.proofs.lemmas.Map.Keys.{IsDistinct-push}
 use Rattle.std.proofs.lemmas.Map.Made.{length-le_from_is_member}
 use Rattle.std.proofs.lemmas.Option.{none-some}
 use Rattle.cs_base.specs.declared.signal.Signal.{Signal}
@@ -175,11 +177,11 @@ pub record IsWalking (wires : List (Signal × Wire)) (old : List ℕ) (from : �
 
 -- one more step
 pub walking_on : (wires : List (Signal × Wire)) (old new next : List ℕ) (from b c : ℕ) → IsWalking wires old from new b
-    → next ≡ new ++ b ∷ [] → IsDistinct nat_eq next → bit_behind (wire_in wires b) ≡ Some c
+    → next ≡ new ++ b ∷ [] → list_any (nat_eq b) new ≡ false → bit_behind (wire_in wires b) ≡ Some c
     → IsWalking wires old from next c
-walking_on wires old new next from b c w same distinct behind = record {
+walking_on wires old new next from b c w same lacks behind = record {
   down = record {
-    distinct = distinct;
+    distinct = subst (IsDistinct nat_eq) (sym same) (IsDistinct-push nat_eq_equiv new b w.down.distinct lacks);
     wired = subst (AreWired wires) (sym same) (push_wired wires new b c w.down.wired behind);
   };
   walk = subst (λ bits. IsWalk wires old from bits c) (sym same) (push_walk wires old new from b c w.walk behind);
@@ -253,6 +255,22 @@ one_closed wires old new least more from stop start m s w down begin closes adds
 pub record IsSearchedFor (wires : List (Signal × Wire)) (passed : List ℕ) (least : ℕ → Bool) (bits : List ℕ) : Type 0 where
   pub searched : IsSearched wires passed least
   pub found : (b : ℕ) → list_any (λ a. a == b) bits ≡ true → AreFound wires least b
+
+-- one bit more
+pub any_step : (i : ℕ) (bits : List ℕ) (b : ℕ) → i < length bits → list_any (λ a. a == b) (take (i + 1) bits)
+    ≡ (list_any (λ a. a == b) (take i bits) || (get_or bits i 0 == b))
+any_step i bits b below = grind (arith, common_steps)
+
+-- what is met from one bit more is found
+pub found_on : (wires : List (Signal × Wire)) (old new : ℕ → Bool) (bits : List ℕ) (x b : ℕ) → KeepsFound old new
+    → ((b : ℕ) → list_any (λ a. a == b) bits ≡ true → AreFound wires old b) → AreFound wires new x
+    → (list_any (λ a. a == b) bits || (x == b)) ≡ true → AreFound wires new b
+found_on wires old new bits x b keeps found here is =
+    by (list_any (λ a. a == b) bits) refl is
+  where
+    by : (before : Bool) → list_any (λ a. a == b) bits ≡ before → (before || (x == b)) ≡ true → AreFound wires new b
+    by true before is = λ k r at ring. keeps r (found b before k r at ring)
+    by false before is = subst (AreFound wires new) (eqb-true x b is) here
 
 -- at last what is found are the rings
 pub rings_found : (wires : List (Signal × Wire)) (passed : List ℕ) (least : ℕ → Bool) (bits : List ℕ) (i : ℕ)

@@ -14,3 +14,4 @@ pub mod Reaches
 pub mod Walks
 pub mod LowerFaults
 pub mod Sizes
+pub mod Tables

@@ -1,14 +1,15 @@
 // Which bits of a netlist are driven.
-ghost use Rattle.std.specs.Prelude.{◌≡◌, ◌∷◌, ◌++◌, [], ℕ, IfOk, OnOk, Some, map, nat_eq};
-ghost use Rattle.indexmap.specs.IndexSet.{contains};
+ghost use Rattle.std.specs.Prelude.{◌≡◌, ◌==◌, ◌∷◌, ◌++◌, [], ℕ, IfOk, OnOk, Some, is_some, map};
+ghost use Rattle.std.specs.List.{list_any};
 ghost use Rattle.cs_net.specs.Drivers.{cell_drives, drivers, memory_drives};
 ghost use Rattle.cs_lower.specs.Registers.{is_driven, still};
+ghost use Rattle.cs_lower.specs.Tables.{held};
 
+use crate::table::{Table, greater, table_size};
 use cs_base::Signal;
 use cs_cells::{Class, MemShape};
-use cs_modules::{number_set, numbers_in};
+use cs_modules::numbers_in;
 use cs_net::{Cell, Netlist};
-use indexmap::IndexSet;
 use std::alloc::{AllocError, Global};
 use std::marker::Model;
 
@@ -80,33 +81,54 @@ fn driven_signals(alloc: Global, net: &Netlist) -> Result<Vec<Signal>, AllocErro
     Ok(signals)
 }
 
+// The greatest number of a bit among signals.
+fn greatest_bit(signals: &[Signal]) -> u32 {
+    let mut greatest = 0;
+    for signal in signals {
+        greatest = greater(greatest, *signal);
+    }
+    greatest
+}
+
+// A table that has these numbers, and no others.
+fn number_table(alloc: Global, numbers: &[u32], size: usize) -> Result<Table<()>, AllocError>
+    ensures { IfOk result (λ table. (b : ℕ) → is_some (held table b) ≡ list_any (λ a. a == b) numbers.now) }
+{
+    let mut table = Table::new(alloc, size)?;
+    for number in numbers {
+        table.insert(*number, ())?;
+    }
+    Ok(table)
+}
+
 #[tactic(auto, using(crate::proofs::DrivenLemmas::is_driven_by))]
-fn driven_numbers(alloc: Global, net: &Netlist) -> Result<IndexSet<u32>, AllocError>
-    ensures { IfOk result (λ set. (b : ℕ) → contains nat_eq set b ≡ is_driven net.now b) }
+fn driven_numbers(alloc: Global, net: &Netlist) -> Result<Table<()>, AllocError>
+    ensures { IfOk result (λ table. (b : ℕ) → is_some (held table b) ≡ is_driven net.now b) }
 {
     let signals = driven_signals(alloc, net)?;
     let numbers = numbers_in(alloc, signals.as_slice())?;
-    number_set(alloc, numbers.as_slice())
+    let size = table_size(signals.len(), greatest_bit(signals.as_slice()));
+    number_table(alloc, numbers.as_slice(), size)
 }
 
 /// A netlist in which it is found at once whether a bit is driven; contracts see the netlist.
 #[derive(Drop)]
 pub(crate) struct DrivenBits<'a> {
     net: &'a Netlist,
-    numbers: IndexSet<u32>,
+    numbers: Table<()>,
 }
 
 impl<'a> Model for DrivenBits<'a> {
-    ghost use Rattle.std.specs.Prelude.{◌≡◌, ℕ, nat_eq};
-    ghost use Rattle.indexmap.specs.IndexSet.{contains};
+    ghost use Rattle.std.specs.Prelude.{◌≡◌, ℕ, is_some};
     ghost use Rattle.cs_net.specs.Netlist.{Net};
     ghost use Rattle.cs_lower.specs.Registers.{is_driven};
+    ghost use Rattle.cs_lower.specs.Tables.{held};
 
     ghost Value = { Net };
 
     ghost view = { λ d. d.net.now };
 
-    ghost invariant = { λ d. (b : ℕ) → contains nat_eq d.numbers b ≡ is_driven d.net.now b };
+    ghost invariant = { λ d. (b : ℕ) → is_some (held d.numbers b) ≡ is_driven d.net.now b };
 }
 
 impl<'a> DrivenBits<'a> {
@@ -130,7 +152,7 @@ impl<'a> DrivenBits<'a> {
         ensures { result ≡ still self.now signal }
     {
         match signal {
-            Signal::Bit(bit) => if self.numbers.contains(&bit.get()) {
+            Signal::Bit(bit) => if self.numbers.has(bit.get()) {
                 None
             } else {
                 Some(false)

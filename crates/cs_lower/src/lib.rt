@@ -1,6 +1,7 @@
 //! From an accepted netlist to the graph that is slowed, banked and retimed.
 #![tactic(auto)]
 
+mod bits;
 mod cells;
 mod contents;
 mod driven;
@@ -15,6 +16,7 @@ mod registers;
 mod rings;
 mod sizes;
 mod starts;
+mod table;
 mod taps;
 mod trails;
 mod wired;

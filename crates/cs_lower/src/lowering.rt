@@ -54,6 +54,7 @@ fn planned(alloc: Global, net: &Netlist) -> Result<(Plan, Sequence<Piece>), Allo
     ensures pieces { IfOk result (λ made. made.1 ≡ pieces_of net.now ++ constants net.now) }
 {
     let parts = parts_of(alloc, net)?;
+    parts.keeps();
     let first_buffer = parts.pieces.len();
     let trails = Trails::of(alloc, net, parts.wires, first_buffer)?;
     let mut pieces = parts.pieces;

@@ -1,18 +1,17 @@
 // How far the signal of each bit reaches. A chain of registers is followed once for all bits on it.
-ghost use Rattle.std.specs.Prelude.{◌≡◌, ◌+◌, ◌<◌, ◌^◌, ℕ, IfOk, OnOk, length, nat_eq};
-ghost use Rattle.std.specs.HashMap.{get};
+ghost use Rattle.std.specs.Prelude.{◌≡◌, ◌+◌, ◌<◌, ◌^◌, ℕ, IfOk, OnOk, length};
 ghost use Rattle.cs_lower.specs.Lowered.{wiring_of};
 ghost use Rattle.cs_lower.specs.Reaches.{at_once, found, one_more, ring_reach, short_reach, signal_end, tap_end};
 ghost use Rattle.cs_lower.specs.Rings.{bit_behind, rings};
+ghost use Rattle.cs_lower.specs.Tables.{held};
 ghost use Rattle.cs_lower.specs.Walks.{AreNoted, AreReaches, Grows, IsNoting, IsPath, bit_reach};
 ghost use Rattle.cs_lower.specs.Wires.{parts_of, wire_in};
 
+use crate::table::Table;
 use crate::taps::{End, Tap, Wire};
 use crate::wired::WiredNet;
 use cs_base::{BitId, Signal};
-use cs_modules::note;
 use std::alloc::{AllocError, Global};
-use std::collections::HashMap;
 
 /// How many registers a pin passes, and where it leads.
 #[derive(Clone, Copy, Debug, PartialEq, Eq)]
@@ -82,24 +81,21 @@ pub(crate) fn short_reach(wire: Wire) -> Reach
 
 // ---- ring buffers
 
-// The buffer of each bit that one takes the place of; the first buffer has this number.
+// The buffer of each bit that one takes the place of, in a table of this size; the first buffer has this number.
 fn ring_reaches(
     alloc: Global,
     bits: &[u32],
     first_buffer: usize,
-) -> Result<HashMap<u32, Reach>, AllocError>
+    size: usize,
+) -> Result<Table<Reach>, AllocError>
     requires { first_buffer + length bits.now < 2 ^ 64 }
-    ensures { IfOk result (λ table. (b : ℕ) → get nat_eq table b ≡ ring_reach first_buffer bits.now b) }
+    ensures { IfOk result (λ table. (b : ℕ) → held table b ≡ ring_reach first_buffer bits.now b) }
 {
-    let mut table = HashMap::new(alloc);
+    let mut table = Table::new(alloc, size)?;
     for (place, bit) in bits.iter().enumerate() {
         let vertex = first_buffer + place;
         let end = End::Vertex { vertex, output: 0 };
-        note(
-            &mut table,
-            Signal::Bit(BitId::new(*bit)),
-            Reach::at_once(end),
-        )?;
+        table.note(Signal::Bit(BitId::new(*bit)), Reach::at_once(end))?;
     }
     Ok(table)
 }
@@ -110,17 +106,17 @@ fn ring_reaches(
 fn pass_back(
     alloc: Global,
     net: &WiredNet,
-    table: &HashMap<u32, Reach>,
+    table: &Table<Reach>,
     from: u32,
 ) -> Result<(Vec<u32>, u32), AllocError>
-    requires { AreReaches net.now (get nat_eq table.now) }
+    requires { AreReaches net.now (held table.now) }
     ensures path { IfOk result (λ r. IsPath (wiring_of net.now) from r.0.items r.1) }
-    ensures stopped { IfOk result (λ r. get nat_eq table.now r.1 ≡ None
+    ensures stopped { IfOk result (λ r. held table.now r.1 ≡ None
         → bit_behind (wire_in (parts_of net.now).wires r.1) ≡ None) }
 {
     let mut path = Vec::new(alloc);
     let mut bit = from;
-    while !table.contains_key(&bit) {
+    while !table.has(bit) {
         let Some(next) = net.behind(BitId::new(bit)) else {
             return Ok((path, bit));
         };
@@ -131,13 +127,13 @@ fn pass_back(
 }
 
 // How far the bit reaches at which a way back stopped.
-fn stop_reach(net: &WiredNet, table: &HashMap<u32, Reach>, stop: u32) -> Reach
-    requires reaches { AreReaches net.now (get nat_eq table.now) }
-    requires stopped { get nat_eq table.now stop ≡ None → bit_behind (wire_in (parts_of net.now).wires stop) ≡ None }
+fn stop_reach(net: &WiredNet, table: &Table<Reach>, stop: u32) -> Reach
+    requires reaches { AreReaches net.now (held table.now) }
+    requires stopped { held table.now stop ≡ None → bit_behind (wire_in (parts_of net.now).wires stop) ≡ None }
     ensures { result ≡ bit_reach net.now stop }
 {
-    match table.get(&stop) {
-        Some(reach) => *reach,
+    match table.get(stop) {
+        Some(reach) => reach,
         None => short_reach(net.wire(BitId::new(stop))),
     }
 }
@@ -145,15 +141,15 @@ fn stop_reach(net: &WiredNet, table: &HashMap<u32, Reach>, stop: u32) -> Reach
 // Notes the reach of each bit of a path, from the last to the first; that of the bit behind it is noted.
 fn note_path(
     net: &WiredNet,
-    table: &mut HashMap<u32, Reach>,
+    table: &mut Table<Reach>,
     from: u32,
     path: Vec<u32>,
     reach: Reach,
 ) -> Result<(), AllocError>
-    requires { IsNoting net.now (get nat_eq table.old) from path.items reach }
-    ensures reaches { OnOk result (AreReaches net.now (get nat_eq table.new)) }
-    ensures noted { OnOk result (get nat_eq table.new from ≡ None → ⊥) }
-    ensures grows { OnOk result (Grows (get nat_eq table.old) (get nat_eq table.new)) }
+    requires { IsNoting net.now (held table.old) from path.items reach }
+    ensures reaches { OnOk result (AreReaches net.now (held table.new)) }
+    ensures noted { OnOk result (held table.new from ≡ None → ⊥) }
+    ensures grows { OnOk result (Grows (held table.old) (held table.new)) }
 {
     net.keeps();
     let mut path = path;
@@ -169,13 +165,13 @@ fn note_path(
 fn note_bit(
     alloc: Global,
     net: &WiredNet,
-    table: &mut HashMap<u32, Reach>,
+    table: &mut Table<Reach>,
     bit: u32,
 ) -> Result<(), AllocError>
-    requires { AreReaches net.now (get nat_eq table.old) }
-    ensures reaches { OnOk result (AreReaches net.now (get nat_eq table.new)) }
-    ensures noted { OnOk result (get nat_eq table.new bit ≡ None → ⊥) }
-    ensures grows { OnOk result (Grows (get nat_eq table.old) (get nat_eq table.new)) }
+    requires { AreReaches net.now (held table.old) }
+    ensures reaches { OnOk result (AreReaches net.now (held table.new)) }
+    ensures noted { OnOk result (held table.new bit ≡ None → ⊥) }
+    ensures grows { OnOk result (Grows (held table.old) (held table.new)) }
 {
     let (path, stop) = pass_back(alloc, net, table, bit)?;
     let reach = stop_reach(net, table, stop);
@@ -187,12 +183,12 @@ fn note_bit(
 fn note_bits(
     alloc: Global,
     net: &WiredNet,
-    table: &mut HashMap<u32, Reach>,
+    table: &mut Table<Reach>,
     bits: &[u32],
 ) -> Result<(), AllocError>
-    requires { AreReaches net.now (get nat_eq table.old) }
-    ensures reaches { OnOk result (AreReaches net.now (get nat_eq table.new)) }
-    ensures noted { OnOk result (AreNoted (get nat_eq table.new) bits.now) }
+    requires { AreReaches net.now (held table.old) }
+    ensures reaches { OnOk result (AreReaches net.now (held table.new)) }
+    ensures noted { OnOk result (AreNoted (held table.new) bits.now) }
 {
     for bit in bits {
         note_bit(alloc, net, table, *bit)?;
@@ -207,14 +203,14 @@ pub(crate) fn bit_reaches(
     net: &WiredNet,
     buffers: &[u32],
     first_buffer: usize,
-) -> Result<HashMap<u32, Reach>, AllocError>
+) -> Result<Table<Reach>, AllocError>
     requires rings { buffers.now ≡ rings (parts_of net.now).wires }
     requires place { first_buffer ≡ length (parts_of net.now).pieces }
     requires fits { first_buffer + length buffers.now < 2 ^ 64 }
-    ensures { IfOk result (λ table. (b : ℕ) → found (get nat_eq table b) ≡ bit_reach net.now b) }
+    ensures { IfOk result (λ table. (b : ℕ) → found (held table b) ≡ bit_reach net.now b) }
 {
     let numbers = net.numbers(alloc)?;
-    let mut table = ring_reaches(alloc, buffers, first_buffer)?;
+    let mut table = ring_reaches(alloc, buffers, first_buffer, net.table_size())?;
     note_bits(alloc, net, &mut table, numbers.as_slice())?;
     Ok(table)
 }

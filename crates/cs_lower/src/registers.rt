@@ -1,5 +1,5 @@
 // The multiplexers that stand before a register with an enable and a reset.
-ghost use Rattle.std.specs.Prelude.{◌≡◌, ◌≤◌, ◌∷◌, [], length, IfOk, OnOk};
+ghost use Rattle.std.specs.Prelude.{◌≡◌, ◌<◌, ◌≤◌, ◌^◌, ◌∷◌, [], length, IfOk, OnOk};
 ghost use Rattle.cs_lower.specs.Registers.{IsPushed, always, element_of, held_of, held_tap, mux, never, no_chain, register_chain, register_parts, reset_count, with_enable, with_reset};
 ghost use Rattle.cs_lower.specs.declared.taps.Tap.TheVariants.{Vertex as of_vertex};
 ghost use Rattle.cs_lower.specs.Taps.{both, with_pieces};
@@ -157,13 +157,13 @@ fn held_of(vertex: usize, start: bool, q: Signal) -> Tap
 }
 
 // What a register holds whose multiplexers begin at vertex `first`.
-fn held_tap(net: &DrivenBits, first: usize, pins: &RegisterPins) -> Result<Tap, AllocError>
-    ensures { IfOk result (λ held. (source : Source) → held ≡ held_tap net.now first (pins.now.q, pins.now.start) (element_of source pins.now)) }
+fn held_tap(net: &DrivenBits, first: usize, pins: &RegisterPins) -> Tap
+    requires { first < 2 ^ 63 }
+    ensures { (source : Source)
+        → result ≡ held_tap net.now first (pins.now.q, pins.now.start) (element_of source pins.now) }
 {
-    let Some(vertex) = first.checked_add(reset_count(net, pins)) else {
-        return Err(AllocError);
-    };
-    Ok(held_of(vertex, pins.start, pins.q))
+    let vertex = first + reset_count(net, pins);
+    held_of(vertex, pins.start, pins.q)
 }
 
 // Pushes the multiplexers before a register, from what it has at D, and tells what comes out.
@@ -178,7 +178,8 @@ fn push_chain(
         → IsPushed parts.old
         (register_chain net.now (length parts.old.pieces) (pins.now.q, pins.now.start) (element_of source pins.now) d) parts.new last) }
 {
-    let held = held_tap(net, parts.pieces.len(), pins)?;
+    parts.keeps();
+    let held = held_tap(net, parts.pieces.len(), pins);
     if pins.kind.enable_over_reset {
         let last = push_reset(alloc, parts, net, pins, d)?;
         push_enable(alloc, parts, net, pins, held, last)

@@ -6,6 +6,7 @@ ghost use Rattle.indexmap.specs.IndexSet.{contains};
 ghost use Rattle.cs_lower.specs.Rings.{is_ring, rings};
 ghost use Rattle.cs_lower.specs.Walks.{AreDown, AreFound, ClosesAt, IsLeast, IsSearched, IsStopped, IsWalk, KeepsFound};
 
+use crate::bits::BitList;
 use crate::wires::Wires;
 use cs_base::BitId;
 use indexmap::IndexSet;
@@ -15,18 +16,18 @@ use std::alloc::{AllocError, Global};
 
 // Goes back from a bit through registers, and puts down each bit that is new, up to one that was put down before or that
 // no bit is behind; tells that one.
-fn walk(wires: &Wires, passed: &mut IndexSet<u32>, from: u32) -> Result<u32, AllocError>
-    requires { AreDown wires.now passed.old.keys }
-    ensures down { OnOk result (AreDown wires.now passed.new.keys) }
-    ensures walk { IfOk result (λ stop. IsWalk wires.now passed.old.keys from passed.new.keys stop) }
-    ensures stopped { IfOk result (λ stop. IsStopped wires.now passed.new.keys stop) }
+fn walk(wires: &Wires, passed: &mut BitList, from: u32) -> Result<u32, AllocError>
+    requires { AreDown wires.now passed.old }
+    ensures down { OnOk result (AreDown wires.now passed.new) }
+    ensures walk { IfOk result (λ stop. IsWalk wires.now passed.old from passed.new stop) }
+    ensures stopped { IfOk result (λ stop. IsStopped wires.now passed.new stop) }
 {
     let mut bit = from;
-    while !passed.contains(&bit) {
+    while !passed.has(bit) {
         let Some(next) = wires.behind(BitId::new(bit)) else {
             return Ok(bit);
         };
-        passed.insert(bit)?;
+        passed.push(bit)?;
         bit = next.get();
     }
     Ok(bit)
@@ -48,12 +49,12 @@ fn least_of(bits: &[u32], first: u32) -> u32
 
 // The least bit of the ring that a walk closed, if it stopped at a bit of its own: one that was put down at this place or
 // later.
-fn closed_ring(passed: &IndexSet<u32>, start: usize, stop: u32) -> Option<u32>
-    ensures none { IfNone result (list_any (nat_eq stop) passed.now.keys ≡ true
-        → list_any (nat_eq stop) (take start passed.now.keys) ≡ true) }
-    ensures some { IfSome result (λ m. ClosesAt start stop passed.now.keys m) }
+fn closed_ring(passed: &BitList, start: usize, stop: u32) -> Option<u32>
+    ensures none { IfNone result (list_any (nat_eq stop) passed.now ≡ true
+        → list_any (nat_eq stop) (take start passed.now) ≡ true) }
+    ensures some { IfSome result (λ m. ClosesAt start stop passed.now m) }
 {
-    let place = passed.get_index_of(&stop)?;
+    let place = passed.place(stop)?;
     if place < start {
         return None;
     }
@@ -63,12 +64,12 @@ fn closed_ring(passed: &IndexSet<u32>, start: usize, stop: u32) -> Option<u32>
 // Walks back from a bit, and notes the ring that is closed there.
 fn search_from(
     wires: &Wires,
-    passed: &mut IndexSet<u32>,
+    passed: &mut BitList,
     least: &mut IndexSet<u32>,
     from: u32,
 ) -> Result<(), AllocError>
-    requires { IsSearched wires.now passed.old.keys (contains nat_eq least.old) }
-    ensures searched { OnOk result (IsSearched wires.now passed.new.keys (contains nat_eq least.new)) }
+    requires { IsSearched wires.now passed.old (contains nat_eq least.old) }
+    ensures searched { OnOk result (IsSearched wires.now passed.new (contains nat_eq least.new)) }
     ensures found { OnOk result (AreFound wires.now (contains nat_eq least.new) from) }
     ensures keeps { OnOk result (KeepsFound (contains nat_eq least.old) (contains nat_eq least.new)) }
 {
@@ -87,7 +88,7 @@ fn ring_set(alloc: Global, wires: &Wires, numbers: &[u32]) -> Result<IndexSet<u3
     ensures { IfOk result (λ set. (b : ℕ) → list_any (λ a. a == b) numbers.now ≡ true
         → contains nat_eq set b ≡ is_ring wires.now b) }
 {
-    let mut passed = IndexSet::new(alloc);
+    let mut passed = BitList::new(alloc, wires.table_size())?;
     let mut least = IndexSet::new(alloc);
     for bit in numbers {
         search_from(wires, &mut passed, &mut least, *bit)?;

@@ -1,15 +1,15 @@
 // What registers and clocked reads hold at first, found at once by bit.
-ghost use Rattle.std.specs.Prelude.{◌≡◌, ◌++◌, ℕ, IfOk, OnOk, false, flat_map, filter_map, get_or, nat_eq, option_to_list};
-ghost use Rattle.std.specs.HashMap.{get};
+ghost use Rattle.std.specs.Prelude.{◌≡◌, ◌++◌, ℕ, IfOk, OnOk, false, flat_map, filter_map, get_or, option_to_list};
 ghost use Rattle.std.specs.List.{enumerate_from, zip};
 ghost use Rattle.cs_net.specs.Drivers.{bit_value, memory_read_starts, own_start, read_starts};
 ghost use Rattle.cs_lower.specs.Starts.{first_value};
+ghost use Rattle.cs_lower.specs.Tables.{held};
 
+use crate::table::Table;
 use cs_base::Signal;
 use cs_cells::{MemShape, ReadShape};
 use cs_net::{BitValue, Cell, Netlist};
 use std::alloc::{AllocError, Global};
-use std::collections::HashMap;
 
 // ---- the list
 
@@ -90,20 +90,25 @@ fn start_list(alloc: Global, net: &Netlist) -> Result<Vec<BitValue>, AllocError>
 // ---- the table
 
 // The first value of each bit.
-fn first_values(alloc: Global, values: &[BitValue]) -> Result<HashMap<u32, bool>, AllocError>
-    ensures { IfOk result (λ firsts. (b : ℕ) → get nat_eq firsts b ≡ first_value values.now b) }
+fn first_values(alloc: Global, values: &[BitValue], size: usize) -> Result<Table<bool>, AllocError>
+    ensures { IfOk result (λ firsts. (b : ℕ) → held firsts b ≡ first_value values.now b) }
 {
-    let mut firsts = HashMap::new(alloc);
+    let mut firsts = Table::new(alloc, size)?;
     for start in values {
-        cs_modules::note(&mut firsts, Signal::Bit(start.bit), start.value)?;
+        firsts.note(Signal::Bit(start.bit), start.value)?;
     }
     Ok(firsts)
 }
 
-/// The start of each bit that a register or a clocked read drives. It errs only where memory runs out.
-pub(crate) fn own_starts(alloc: Global, net: &Netlist) -> Result<HashMap<u32, bool>, AllocError>
-    ensures { IfOk result (λ starts. (b : ℕ) → get nat_eq starts b ≡ first_value (own_start net.now).bits b) }
+/// The start of each bit that a register or a clocked read drives, in a table of this size. It errs only where memory
+/// runs out.
+pub(crate) fn own_starts(
+    alloc: Global,
+    net: &Netlist,
+    size: usize,
+) -> Result<Table<bool>, AllocError>
+    ensures { IfOk result (λ starts. (b : ℕ) → held starts b ≡ first_value (own_start net.now).bits b) }
 {
     let values = start_list(alloc, net)?;
-    first_values(alloc, values.as_slice())
+    first_values(alloc, values.as_slice(), size)
 }

@@ -1,10 +1,11 @@
 // Vertices whose pins aren't followed back through registers yet.
-ghost use Rattle.std.specs.Prelude.{◌≡◌, ◌∷◌, [], length, IfOk, OnOk};
+ghost use Rattle.std.specs.Prelude.{◌≡◌, ◌<◌, ◌^◌, ◌∷◌, [], length, IfOk, OnOk};
 ghost use Rattle.cs_lower.specs.Taps.{no_parts, piece, with_pieces, with_wire};
 
 use cs_base::{BitId, Sequence, Signal, Text};
 use cs_graph::VertexKind;
 use std::alloc::{AllocError, Global};
+use std::mem::size_of_val;
 
 /// What a pin is connected to.
 #[derive(Clone, Copy, Debug, PartialEq, Eq)]
@@ -73,6 +74,13 @@ impl Parts {
             pieces: Sequence::new(alloc),
             wires: Sequence::new(alloc),
         }
+    }
+
+    /// There are few vertices, since a vertex takes more than one byte.
+    pub(crate) fn keeps(&self)
+        ensures { length self.now.pieces < 2 ^ 63 }
+    {
+        let _bytes = size_of_val(self.pieces.as_slice());
     }
 
     /// Puts a vertex behind the others, and tells its number.

@@ -1,5 +1,5 @@
 // A netlist whose pins are followed back through registers.
-ghost use Rattle.std.specs.Prelude.{◌≡◌, ◌+◌, ◌<◌, ◌^◌, [], IfOk, IfNone, IfSome, OnOk, length, false, ◌∷◌};
+ghost use Rattle.std.specs.Prelude.{◌≡◌, ◌+◌, ◌<◌, ◌^◌, [], IfOk, IfNone, IfSome, length, false, ◌∷◌};
 ghost use Rattle.cs_net.specs.Drivers.{own_start};
 ghost use Rattle.cs_net.specs.Netlist.{bit_at};
 ghost use Rattle.cs_lower.specs.declared.taps.Tap.TheVariants.{Register as of_register, Signal as of_signal};
@@ -13,45 +13,43 @@ pub(crate) use crate::reaches::Reach;
 use crate::reaches::{bit_reaches, short_reach, signal_end};
 use crate::rings::rings;
 use crate::starts::own_starts;
+use crate::table::Table;
 use crate::taps::{End, Tap, Wire};
 use crate::wired::WiredNet;
 use crate::wires::bit_of;
 use cs_base::{BitId, Sequence, Signal};
 use cs_net::Netlist;
 use std::alloc::{AllocError, Global};
-use std::collections::HashMap;
 use std::marker::Model;
+use std::mem::size_of_val;
 
 /// A netlist whose pins are followed back at once; contracts see the netlist.
 #[derive(Drop)]
 pub(crate) struct Trails<'a> {
     net: WiredNet<'a>,
-    starts: HashMap<u32, bool>,
+    starts: Table<bool>,
     rings: Vec<u32>,
-    reaches: HashMap<u32, Reach>,
+    reaches: Table<Reach>,
 }
 
 impl<'a> Model for Trails<'a> {
     ghost use Rattle.cs_net.specs.Netlist.{Net};
-    ghost use Rattle.std.specs.HashMap.{get};
-    ghost use Rattle.std.specs.Prelude.{nat_eq};
+    ghost use Rattle.cs_lower.specs.Tables.{held};
     ghost use Rattle.cs_lower.specs.Walks.{IsFollowed};
 
     ghost Value = { Net };
 
     ghost view = { λ t. t.net };
 
-    ghost invariant = { λ t. IsFollowed t.net (get nat_eq t.starts) t.rings.items (get nat_eq t.reaches) };
+    ghost invariant = { λ t. IsFollowed t.net (held t.starts) t.rings.items (held t.reaches) };
 }
 
-// The numbers of the ring buffers are counts of what stands in memory.
-fn fits(first_buffer: usize, count: usize) -> Result<(), AllocError>
-    ensures { OnOk result (first_buffer + count < 2 ^ 64) }
+// There are few ring buffers, since the number of a bit takes more than one byte.
+fn fits(first_buffer: usize, rings: &[u32])
+    requires { first_buffer < 2 ^ 63 }
+    ensures { first_buffer + length rings.now < 2 ^ 64 }
 {
-    match first_buffer.checked_add(count) {
-        Some(_) => Ok(()),
-        None => Err(AllocError),
-    }
+    let _bytes = size_of_val(rings);
 }
 
 // The bit that a pin is, or whose register it is.
@@ -96,12 +94,13 @@ impl<'a> Trails<'a> {
     ) -> Result<Self, AllocError>
         requires wires { wires ≡ (parts_of net.now).wires }
         requires place { first_buffer ≡ length (parts_of net.now).pieces }
+        requires few { first_buffer < 2 ^ 63 }
         ensures { IfOk result (λ trails. trails ≡ net.now) }
     {
         let net = WiredNet::of(alloc, net, wires)?;
-        let starts = own_starts(alloc, net.netlist())?;
+        let starts = own_starts(alloc, net.netlist(), net.table_size())?;
         let rings = rings(alloc, net.wires())?;
-        fits(first_buffer, rings.len())?;
+        fits(first_buffer, rings.as_slice());
         let reaches = bit_reaches(alloc, &net, rings.as_slice(), first_buffer)?;
         Ok(Trails {
             net,
@@ -122,8 +121,8 @@ impl<'a> Trails<'a> {
     fn bit_reach(&self, bit: BitId) -> Reach
         ensures { result ≡ bit_reach self.now bit }
     {
-        match self.reaches.get(&bit.get()) {
-            Some(reach) => *reach,
+        match self.reaches.get(bit.get()) {
+            Some(reach) => reach,
             None => Reach::at_once(End::Constant(false)),
         }
     }
@@ -179,7 +178,7 @@ impl<'a> Trails<'a> {
     fn start(&self, bit: BitId) -> bool
         ensures { result ≡ bit_at (own_start self.now).bits bit }
     {
-        self.starts.get(&bit.get()).copied().unwrap_or(false)
+        self.starts.get(bit.get()).unwrap_or(false)
     }
 
     // The bit of the first register that a pin passes.

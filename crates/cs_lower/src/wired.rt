@@ -10,6 +10,7 @@ use cs_base::{BitId, Sequence, Signal};
 use cs_net::Netlist;
 use std::alloc::{AllocError, Global};
 use std::marker::Model;
+use std::mem::size_of_val;
 
 /// A netlist in which what drives a bit is found at once; contracts see the netlist.
 #[derive(Drop)]
@@ -40,15 +41,12 @@ impl<'a> WiredNet<'a> {
         requires { wires ≡ (parts_of net.now).wires }
         ensures { IfOk result (λ wired. wired ≡ net.now) }
     {
-        // So many can't stand in memory.
-        if wires.len() >= 1 << 63 {
-            return Err(AllocError);
-        }
+        let _bytes = size_of_val(wires.as_slice());
         let wires = Wires::new(alloc, wires)?;
         Ok(WiredNet { net, wires })
     }
 
-    /// There are few wires, since they stand in memory.
+    /// There are few wires, since a wire takes more than one byte.
     pub fn keeps(&self)
         ensures { length (parts_of self.now).wires < 2 ^ 63 }
     {
@@ -67,6 +65,11 @@ impl<'a> WiredNet<'a> {
         ensures { result.now ≡ (parts_of self.now).wires }
     {
         &self.wires
+    }
+
+    /// A size for tables of the bits that are driven.
+    pub fn table_size(&self) -> usize {
+        self.wires.table_size()
     }
 
     /// What drives a bit.

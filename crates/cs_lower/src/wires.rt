@@ -1,24 +1,33 @@
 // Wires in which that of a bit is found at once.
-ghost use Rattle.std.specs.Prelude.{◌≡◌, ℕ, IfOk, filter_map, nat_eq};
-ghost use Rattle.std.specs.HashMap.{get};
+ghost use Rattle.std.specs.Prelude.{◌≡◌, ℕ, IfOk, filter_map};
 ghost use Rattle.cs_modules.specs.Signals.{number_in};
 ghost use Rattle.cs_lower.specs.Rings.{bit_at_tap, bit_behind};
+ghost use Rattle.cs_lower.specs.Tables.{held};
 ghost use Rattle.cs_lower.specs.Wires.{first_wire, wire_in};
 
+use crate::table::{Table, greater, table_size};
 use crate::taps::{Tap, Wire};
 use cs_base::{BitId, Sequence, Signal};
-use cs_modules::{note, number_in};
+use cs_modules::number_in;
 use std::alloc::{AllocError, Global};
-use std::collections::HashMap;
 use std::marker::Model;
 
+// The greatest number of a bit that is driven.
+fn greatest_bit(wires: &[(Signal, Wire)]) -> u32 {
+    let mut greatest = 0;
+    for (signal, _) in wires {
+        greatest = greater(greatest, *signal);
+    }
+    greatest
+}
+
 // The first wire of each bit.
-fn first_wires(alloc: Global, wires: &[(Signal, Wire)]) -> Result<HashMap<u32, Wire>, AllocError>
-    ensures { IfOk result (λ firsts. (b : ℕ) → get nat_eq firsts b ≡ first_wire wires.now b) }
+fn first_wires(alloc: Global, wires: &[(Signal, Wire)]) -> Result<Table<Wire>, AllocError>
+    ensures { IfOk result (λ firsts. (b : ℕ) → held firsts b ≡ first_wire wires.now b) }
 {
-    let mut firsts = HashMap::new(alloc);
+    let mut firsts = Table::new(alloc, table_size(wires.len(), greatest_bit(wires)))?;
     for (signal, wire) in wires {
-        note(&mut firsts, *signal, *wire)?;
+        firsts.note(*signal, *wire)?;
     }
     Ok(firsts)
 }
@@ -61,21 +70,21 @@ fn bit_behind(wire: Wire) -> Option<BitId>
 #[derive(Drop)]
 pub(crate) struct Wires {
     wires: Sequence<(Signal, Wire)>,
-    firsts: HashMap<u32, Wire>,
+    firsts: Table<Wire>,
 }
 
 impl Model for Wires {
-    ghost use Rattle.std.specs.Prelude.{◌≡◌, ℕ, List, nat_eq};
-    ghost use Rattle.std.specs.HashMap.{get};
+    ghost use Rattle.std.specs.Prelude.{◌≡◌, ℕ, List};
     ghost use Rattle.cs_base.specs.declared.signal.Signal.{Signal};
     ghost use Rattle.cs_lower.specs.declared.taps.Wire.{Wire};
+    ghost use Rattle.cs_lower.specs.Tables.{held};
     ghost use Rattle.cs_lower.specs.Wires.{first_wire};
 
     ghost Value = { List (Signal × Wire) };
 
     ghost view = { λ w. w.wires };
 
-    ghost invariant = { λ w. (b : ℕ) → get nat_eq w.firsts b ≡ first_wire w.wires b };
+    ghost invariant = { λ w. (b : ℕ) → held w.firsts b ≡ first_wire w.wires b };
 }
 
 impl Wires {
@@ -94,12 +103,17 @@ impl Wires {
         self.wires.as_slice()
     }
 
+    /// A size for tables of the bits that are driven.
+    pub fn table_size(&self) -> usize {
+        self.firsts.size()
+    }
+
     /// What drives a bit.
     pub fn wire(&self, bit: BitId) -> Wire
         ensures { result ≡ wire_in self.now bit }
     {
-        match self.firsts.get(&bit.get()) {
-            Some(wire) => *wire,
+        match self.firsts.get(bit.get()) {
+            Some(wire) => wire,
             None => Wire::Undriven,
         }
     }
