@@ -1,5 +1,5 @@
 -- The graph of a netlist answers as the netlist does.
-use Rattle.std.proofs.Common.{◌≡◌, ℕ, zero, suc, ◌<◌, true, List, [], length, get_or, refl, sym, ap, subst, ◌∙◌, arith}
+use Rattle.std.proofs.Common.{◌≡◌, ℕ, ◌<◌, true, List, [], length, refl, sym, subst, ◌∙◌, arith}
 use Rattle.std.proofs.lemmas.List.{ext_get_or}
 use Rattle.std.proofs.lemmas.Simd.{map-map}
 use Rattle.cs_cells.specs.Memories.{Words}
@@ -9,7 +9,7 @@ use Rattle.cs_graph.proofs.Runs.{one_run}
 use Rattle.cs_net.specs.Drivers.{data_outputs, own_start}
 use Rattle.cs_net.specs.Invariant.{IsWellFormed}
 use Rattle.cs_net.specs.Netlist.{Net, state_of}
-use Rattle.cs_net.specs.Trace.{Answers, Valuation, output_row, output_rows}
+use Rattle.cs_net.specs.Trace.{Answers, output_row, output_rows}
 use Rattle.cs_net.proofs.Answering.{get_or-output_rows, length-output_rows, same_answer}
 use Rattle.cs_lower.specs.Alike.{AnswersAlike}
 use Rattle.cs_lower.specs.Lowered.{lowered}

@@ -1,28 +1,25 @@
 -- What is made of a netlist that is within the limits is what a machine is assembled of.
-use Rattle.std.specs.Prelude.{cond, min, nat_lt, slice_get}
-use Rattle.std.proofs.Common.{◌≡◌, ◌∙◌, ℕ, zero, suc, ◌*◌, ◌-◌, ◌^◌, ◌<◌, ◌≤◌, ◌++◌, Bool, List, Option, Some, None, [], ap, arith, inl, inr, length, map, refl, subst, sym}
+use Rattle.std.specs.Prelude.{cond, min, slice_get}
+use Rattle.std.proofs.Common.{◌≡◌, ◌∙◌, ℕ, zero, suc, ◌*◌, ◌-◌, ◌^◌, ◌<◌, ◌≤◌, ◌++◌, Bool, List, Option, Some, None, ap, arith, inl, inr, length, refl, subst, sym}
 use Rattle.std.specs.List.{AllByRecursion, zip}
 use Rattle.std.specs.Option.{option_or}
 use Rattle.std.proofs.lemmas.Bool.{cases_lt, lt-ltb}
 use Rattle.std.proofs.lemmas.List.{length-map}
-use Rattle.std.proofs.lemmas.Option.{none-some, same_Some, slice_get_within}
+use Rattle.std.proofs.lemmas.Option.{none-some, slice_get_within}
 use Rattle.cs_base.specs.declared.limit.Counted.{Counted}
 use Rattle.cs_base.specs.declared.limit.Counted.TheVariants.{Edges, Vertices, Weight}
 use Rattle.cs_base.specs.declared.limit.LimitFault.{LimitFault}
-use Rattle.cs_cells.specs.declared.memory.MemShape.{MemShape}
 use Rattle.cs_graph.specs.declared.memory.Memory.{Memory}
-use Rattle.cs_graph.specs.declared.source.Driver.{Driver}
 use Rattle.cs_graph.specs.declared.source.OpenVertex.{OpenVertex}
 use Rattle.cs_graph.specs.declared.source.Source.{Source}
 use Rattle.cs_graph.specs.declared.source.Source.TheVariants.{Driven, Tied}
 use Rattle.cs_graph.specs.declared.vertex.VertexKind.{VertexKind}
 use Rattle.cs_graph.specs.declared.vertex.VertexKind.TheVariants.{Constant, Gate, Host, Input, Output, Read, Write}
-use Rattle.cs_graph.specs.Draft.{AreFed, Draft, IsDraft, IsWithinLimits, built, edge_count, open_kinds, weight}
-use Rattle.cs_graph.specs.Invariant.{HasOrder, HasOutput, IsMemory}
+use Rattle.cs_graph.specs.Draft.{AreFed, IsDraft, IsWithinLimits, built, edge_count, open_kinds, weight}
+use Rattle.cs_graph.specs.Invariant.{HasOrder, IsMemory}
 use Rattle.cs_graph.specs.Kinds.{output_count, word_bits}
 use Rattle.cs_modules.specs.Memories.{shapes_in}
 use Rattle.cs_net.specs.Accept.{above_limit}
-use Rattle.cs_net.specs.declared.state.MemoryWords.{MemoryWords}
 use Rattle.cs_net.specs.Invariant.{IsWellFormed}
 use Rattle.cs_net.specs.Netlist.{Net}
 use Rattle.cs_net.proofs.MemoryPlaces.{at_map, map_at}

@@ -1,5 +1,5 @@
 -- The next words are those that the premise speaks of.
-use Rattle.std.proofs.Common.{◌≡◌, ◌∙◌, ap, sym}
+use Rattle.std.proofs.Common.{◌∙◌, ap, sym}
 use Rattle.std.specs.Prelude.{slice_get}
 use Rattle.cs_lower.proofs.contents.push_memory.Goals as goal
 

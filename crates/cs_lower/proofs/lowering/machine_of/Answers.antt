@@ -1,5 +1,5 @@
 -- What is made of a netlist fits a machine.
-use Rattle.std.proofs.Common.{◌≡◌, ◌∙◌, List, ap, ap₂, map, subst, sym}
+use Rattle.std.proofs.Common.{◌≡◌, ◌∙◌, List, ap₂, map, subst, sym}
 use Rattle.std.specs.List.{AllByRecursion, zip}
 use Rattle.cs_graph.specs.declared.memory.Memory.{Memory}
 use Rattle.cs_graph.specs.declared.source.OpenVertex.{OpenVertex}

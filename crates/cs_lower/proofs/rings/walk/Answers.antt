@@ -1,4 +1,4 @@
-use Rattle.std.proofs.Common.{◌≡◌, false, ◌∷◌, ◌++◌, [], nat_eq, Some}
+use Rattle.std.proofs.Common.{◌≡◌, false, nat_eq, Some}
 use Rattle.std.specs.List.{list_any}
 use Rattle.cs_lower.specs.Rings.{bit_behind}
 use Rattle.cs_lower.specs.Wires.{wire_in}
