@@ -278,6 +278,19 @@ learned_goes_on formula old new cut learned line number is learned_is same cut_i
           subst (λ xs. weight n steps < weight n xs) (sym implied.steps) before;
     }
 
+-- ---- restarts
+
+pub restarted : (formula : Formula) (old new : Search) → IsSearch formula old → IsTrail new.trail
+    → length new.trail.table.items ≡ length old.trail.table.items → IsCut 0 old.trail.steps.items new.trail.steps.items
+    → new.store.lines ≡ old.store.lines → new.marks.marked.items ≡ old.marks.marked.items → IsSearch formula new
+restarted formula old new is new_is size off lines marks = record {
+  over = subst (λ ls. IsOver (formula.clauses ++ ls) new.trail) (sym lines)
+      (over_cut (formula.clauses ++ old.store.lines) 0 old.trail new.trail new_is size off is.over);
+  each = subst (λ ls. AreRup formula.clauses ls) (sym lines) is.each;
+  size = size ∙ is.size;
+  clear = clear_same old.trail new.trail old.marks new.marks size marks is.clear;
+}
+
 -- ---- propagation
 
 pub propagated : (formula : Formula) (old new : Search) (found : Option ℕ) (base : List Clause) → base ≡ formula.clauses

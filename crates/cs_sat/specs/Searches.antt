@@ -56,6 +56,11 @@ abbrev pub EndsAs : Formula → Search → End → Type 0
 EndsAs formula search AllTrue = IsSearch formula search × AreAllTrue formula search.trail
 EndsAs formula search Contradiction = IsDerivation formula search.store.lines
 
+-- where a search stands that was run for a while: it can go on, or it ended
+abbrev pub StandsAs : Formula → Search → Option End → Type 0
+StandsAs formula search None = IsSearch formula search
+StandsAs formula search (Some end) = EndsAs formula search end
+
 -- after a step the search goes on or ends
 abbrev pub IsStepped : Formula → Search → Search → Option End → Type 0
 IsStepped formula old new None = GoesOn formula old new

@@ -7,6 +7,7 @@ mod look;
 mod marks;
 mod order;
 mod propagate;
+mod restarts;
 mod search;
 mod shorten;
 mod store;

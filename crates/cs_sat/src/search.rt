@@ -9,18 +9,25 @@ ghost use Rattle.cs_sat.specs.Trails.{setting_of, is_true, IsTrail, AllFalse};
 ghost use Rattle.cs_sat.specs.Reasons.{IsOver, IsConflict};
 ghost use Rattle.cs_sat.specs.Looks.{HasTrue};
 ghost use Rattle.cs_sat.specs.Analyses.{IsClear, IsLearned};
-ghost use Rattle.cs_sat.specs.Searches.{IsSearch, GoesOn, IsPropagated, AreAllSet, AreAllTrue, IsOutcome, EndsAs, IsStepped};
+ghost use Rattle.cs_sat.specs.Searches.{IsSearch, GoesOn, IsPropagated, AreAllSet, AreAllTrue, IsOutcome, EndsAs, StandsAs, IsStepped};
 ghost use Rattle.cs_sat.specs.Verdicts.{IsRight, IsModelOf, IfModel, IfRefuted, IsRefutation};
 
 use crate::analyse::{Learned, analyse, latest};
 use crate::marks::Marks;
 use crate::order::Order;
 use crate::propagate::{look_at_base, propagate};
+use crate::restarts::Luby;
 use crate::store::{Store, Watch, clause_at};
 use crate::trail::Trail;
 use crate::verdict::Verdict;
 use cs_base::{Clause, Derivation, Formula, Lit, Sequence};
 use std::alloc::{AllocError, Global};
+
+/// How often the search is begun anew at most.
+const MOST_RESTARTS: u32 = 1 << 16;
+
+/// After so many conflicts it is, times the next term of the sequence.
+const CONFLICTS: usize = 100;
 
 /// How a search ends.
 #[derive(Clone, Copy)]
@@ -286,8 +293,56 @@ impl Search {
         }
     }
 
-    // Goes to the end.
+    // Goes to the end, or on until so many clauses were learned.
+    fn run_for(
+        &mut self,
+        f: &Formula,
+        order: &mut Order,
+        conflicts: usize,
+    ) -> Result<Option<End>, AllocError>
+        requires search { IsSearch f.now self.old }
+        requires in_range { IsInRange f.now }
+        ensures { IfOk result (StandsAs f.now self.new) }
+    {
+        let most = self.store.lines.len().saturating_add(conflicts);
+        while self.store.lines.len() < most {
+            if let Some(end) = self.step(f, order)? {
+                return Ok(Some(end));
+            }
+        }
+        Ok(None)
+    }
+
+    // Takes back what follows from decisions; the lines stay, and variables keep their signs.
+    fn restart(&mut self, f: &Formula, order: &mut Order) -> Result<(), AllocError>
+        requires { IsSearch f.now self.old }
+        ensures { OnOk result (IsSearch f.now self.new) }
+    {
+        order.release(&self.trail, 0)?;
+        self.trail.cut(0);
+        self.next = self.next.min(self.trail.steps.len());
+        Ok(())
+    }
+
+    // Goes to the end; now and then the search is begun anew.
     fn run(&mut self, f: &Formula, order: &mut Order) -> Result<End, AllocError>
+        requires search { IsSearch f.now self.old }
+        requires in_range { IsInRange f.now }
+        ensures { IfOk result (EndsAs f.now self.new) }
+    {
+        let mut luby = Luby::new();
+        for _ in 0..MOST_RESTARTS {
+            let conflicts = luby.next().saturating_mul(CONFLICTS);
+            if let Some(end) = self.run_for(f, order, conflicts)? {
+                return Ok(end);
+            }
+            self.restart(f, order)?;
+        }
+        self.run_on(f, order)
+    }
+
+    // Goes to the end, and is not begun anew.
+    fn run_on(&mut self, f: &Formula, order: &mut Order) -> Result<End, AllocError>
         requires search { IsSearch f.now self.old }
         requires in_range { IsInRange f.now }
         ensures { IfOk result (EndsAs f.now self.new) }

@@ -2,7 +2,7 @@
 use Rattle.std.proofs.Common.{subst, arith}
 use Rattle.cs_sat.specs.Searches.{IsStepped}
 use Rattle.cs_sat.proofs.Searches.{light}
-use Rattle.cs_sat.proofs.search.Search.run.Goals as goal
+use Rattle.cs_sat.proofs.search.Search.run_on.Goals as goal
 
 pub loop-end-smaller : goal.loop-end-smaller
 loop-end-smaller c =

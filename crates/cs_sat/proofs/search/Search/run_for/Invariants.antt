@@ -1,0 +1,11 @@
+-- The search has its state, and each step makes its trail heavier.
+use Rattle.std.proofs.Common.{◌+◌, ◌-◌}
+use Rattle.cs_sat.specs.Weights.{power}
+use Rattle.cs_sat.specs.Searches.{IsSearch, weight_of}
+use Rattle.cs_sat.proofs.search.Search.run_for.Given as goal
+
+abbrev pub invariant-loop-self : goal.invariant-loop-self
+invariant-loop-self l = IsSearch l.f l.self
+
+abbrev pub decreases-loop-self : goal.decreases-loop-self
+decreases-loop-self l = power (l.f.vars + 1) (l.f.vars + 1 + 1) - weight_of l.f l.self
