@@ -63,13 +63,16 @@ compare() {
     return $status
 }
 
-echo "acc.v to out/acc.json"
-yosys -q acc.ys
+yosys -q -p "read_verilog acc.v; hierarchy -check -top acc; script ../netlist.ys; write_json out/acc.json"
 iverilog -g2005 -DPROGRAM -o out/original.vvp bench.v acc.v
+
+echo "the netlist against the original core"
 for k in 0 1 2 3; do
     awk -v seed=$((k + 11)) -v count=$clocks -f rows.awk > out/rows.$k
     original out/rows.$k > out/alone.$k
+    "$cslow" sim out/acc.json out/rows.$k > out/netlist.$k
 done
+compare 4 out/netlist out/alone
 
 for c in 2 4; do
     echo "$c threads against the original core"
