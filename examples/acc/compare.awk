@@ -1,5 +1,5 @@
-# Says whether two files of rows agree: awk -f compare.awk ORIGINAL CORE. An x of the original stands against any bit,
-# since a netlist has 0 and 1 alone. Status 0 where they agree, 1 where they differ or one is shorter.
+# Says whether two files of rows agree: awk -f compare.awk ORIGINAL CORE. An x of the original stands against any
+# bit, since a netlist has 0 and 1 alone. Status 0 where they agree, 1 where they differ or one is shorter.
 FNR == NR {
     original[FNR] = $0
     rows = FNR

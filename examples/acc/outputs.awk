@@ -1,4 +1,4 @@
-# The first 16 numbers that the core put: out where put, the last column, is 1. The least bit of out stands first.
+# The first 16 numbers that the core put: out, whose least bit stands first, where put, the last column, is 1.
 substr($0, 13, 1) == "1" && shown < 16 {
     shown++
     number = 0

@@ -1,8 +1,9 @@
 #!/bin/sh
 # Shows, for each FILE.v here, the line by which cslow refuses it and that it passes when it is mended.
-# usage: run.sh [NAME..], for FILE.v of these names alone. The variable CSLOW names the program, as in ../acc/run.sh.
-# A file is refused as it stands by ../netlist.ys, or by that script changed with sed as a line '// refused by:' says. It
-# passes as PASSES defines it, and by the script, changed as a line '// passes by:' says.
+# usage: run.sh [NAME..], for the files of these names alone. The variable CSLOW names the program, as in
+# ../acc/run.sh. Status 0: all are refused and pass; 1: one isn't or doesn't; 2: a program isn't there.
+# A file is refused as it stands, by ../netlist.ys or that script changed with sed as a line '// refused by:' says.
+# It passes as it stands where PASSES is defined, by the script or that changed as a line '// passes by:' says.
 set -eu
 
 here=$(cd "$(dirname "$0")" && pwd)
@@ -26,9 +27,11 @@ mkdir -p out
 line() {
     { echo "hierarchy -check -top top" && cat ../netlist.ys; } | sed "$2" > out/script.ys
     rm -f out/top.json
-    if ! yosys -q -p "read_verilog -sv $3 $1; script out/script.ys; write_json out/top.json" > out/log 2>&1; then
+    yosys -q -p "read_verilog -sv $3 $1; script out/script.ys; write_json out/top.json" > out/log 2>&1 || {
         grep ERROR out/log
-    elif "$cslow" slow out/top.json out/slow.json out/cert.json ../acc/delays.json -c 2 > out/line; then
+        return
+    }
+    if "$cslow" slow out/top.json out/slow.json out/cert.json ../acc/delays.json -c 2 > out/line; then
         echo passes
     else
         cat out/line
