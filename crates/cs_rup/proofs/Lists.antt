@@ -1,5 +1,5 @@
 -- What a list contains, and what a search in it tells.
-use Rattle.std.proofs.Common.{◌≡◌, ℕ, ◌+◌, ◌<◌, map, get_or, Bool, true, false, ◌||◌, ◌⊎◌, inl, inr, List, [], ◌∷◌, length, Some, Result, Ok, Err, OnOk, IfErr, refl, sym, arith, subst, ap, ◌∙◌}
+use Rattle.std.proofs.Common.{◌≡◌, ℕ, ◌+◌, ◌<◌, map, get_or, Bool, true, false, ◌||◌, ◌⊎◌, inl, inr, List, [], ◌∷◌, length, Option, Some, None, Result, Ok, Err, OnOk, IfOk, IfSome, IfErr, refl, sym, arith, subst, ap, ◌∙◌}
 use Rattle.std.specs.List.{Contains, list_any, slice_get}
 use Rattle.std.proofs.lemmas.Bool.{cases_lt}
 use Rattle.std.proofs.lemmas.Option.{slice_get_within, get_or_from_slice_get, slice_get-get_or, slice_get_read}
@@ -96,3 +96,9 @@ on_ok (Err _) P Q step holds = tt
 pub if_err : {T E : Type 0} (r : Result T E) (P Q : E → Type 0) → ((e : E) → P e → Q e) → IfErr r P → IfErr r Q
 if_err (Ok _) P Q step holds = tt
 if_err (Err e) P Q step holds = step e holds
+
+pub if_ok_some : {T E : Type 0} (r : Result (Option T) E) (P Q : T → Type 0) → ((x : T) → P x → Q x)
+    → IfOk r (λ found. IfSome found P) → IfOk r (λ found. IfSome found Q)
+if_ok_some (Ok None) P Q step holds = tt
+if_ok_some (Ok (Some x)) P Q step holds = step x holds
+if_ok_some (Err _) P Q step holds = tt

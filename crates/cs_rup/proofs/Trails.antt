@@ -12,6 +12,7 @@ use Rattle.cs_rup.specs.declared.trail.Trail.{Trail}
 use Rattle.cs_rup.specs.declared.error.Stop.{Stop}
 use Rattle.cs_rup.specs.declared.store.Store.{Store}
 use Rattle.cs_rup.specs.Settings.{Setting, has_value, is_true, is_false, AllFalse, AllFalseBut, IsOpen, IsSetIn, IsUnsetIn}
+use Rattle.cs_rup.specs.Watchers.{HasPlace}
 use Rattle.cs_rup.specs.Stores.{AreListed, list_of, IsWatched, AllWatched, WatchedBelow, AreSame, IsRewatched}
 use Rattle.cs_rup.specs.Trails.{IsSound, Explains, StaysSound, ExplainsAny, set_by, Grows, IsUndone, IsReady, Waits, AllWait}
 use Rattle.cs_rup.proofs.Lists.{at_contains}
@@ -277,14 +278,14 @@ both_ways clauses given lit s is among sound =
 -- propagation goes one place on
 module _ (old new : Trail) (a b : Store) (next : ℕ) (at : Lit) (listed : AreListed a) (within : next < length old.lits.items)
     (at_next : slice_get old.lits.items next ≡ Some at) (grows : Grows old new) (rewatched : IsRewatched (set_by old) a b)
-    (visited : (place : ℕ) (clause : Clause) → Contains (list_of a.lists.items (negated at)) place
+    (visited : (place : ℕ) (clause : Clause) → HasPlace (list_of a.lists.items (negated at)) place
     → slice_get a.clauses place ≡ Some clause → Waits new (length old.lits.items) b place clause.lits)
   where
     visited_one : (i : ℕ) (clause : Clause) (lit : Lit) → slice_get a.clauses i ≡ Some clause → negated at ≡ lit
-        → Contains (list_of a.lists.items lit) i → Waits new (next + 1) b i clause.lits
+        → HasPlace (list_of a.lists.items lit) i → Waits new (next + 1) b i clause.lits
     visited_one i clause lit found same has =
         waits_less new (next + 1) (length old.lits.items) b i clause.lits (omega arith)
-        (visited i clause (subst (λ l. Contains (list_of a.lists.items l) i) (sym same) has) found)
+        (visited i clause (subst (λ l. HasPlace (list_of a.lists.items l) i) (sym same) has) found)
 
     pub passed : AllWait old next a → AllWait new (next + 1) b
     passed waits i clause found =

@@ -1,4 +1,5 @@
 pub mod Settings
+pub mod Watchers
 pub mod Stores
 pub mod Trails
 pub mod Checkers

@@ -73,7 +73,7 @@ pub record HasPair (IsFree : Lit → Type 0) (watch : Watch) (lits : List Lit) :
 
 -- what a clause asks for: nothing, that its one literal that isn't false is set, or a conflict
 abbrev pub Asks : Setting → List Lit → Status → Type 0
-Asks s lits Satisfied = HasTrue s lits
+Asks s lits (Satisfied lit) = Contains lits lit × (is_true s lit ≡ true)
 Asks s lits (Open watch) = HasPair (IsOpen s) watch lits
 Asks s lits (UnitClause lit) = Contains lits lit × (s lit.var ≡ None) × AllFalseBut s lits lit
 Asks s lits Falsified = AllFalse s lits

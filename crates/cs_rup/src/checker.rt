@@ -101,18 +101,18 @@ impl Checker {
             seen: 0,
         };
         for clause in f.clauses.as_slice() {
-            checker.keep(alloc, clause)?;
+            checker.keep(alloc, clause, false)?;
         }
         Ok(checker)
     }
 
-    // Puts a clause behind the others; a refusal leaves the clauses unchanged.
-    fn keep(&mut self, alloc: Global, clause: &Clause) -> Result<(), AllocError>
+    // Puts a clause, or a line, behind the others; a refusal leaves the clauses unchanged.
+    fn keep(&mut self, alloc: Global, clause: &Clause, is_line: bool) -> Result<(), AllocError>
         ensures ok { OnOk result (self.new ≡ self.old ++ clause.now ∷ []) }
         ensures err { OnErr result (self.new ≡ self.old) }
     {
         let copy = clause.copy(alloc)?;
-        self.store.add(copy)?;
+        self.store.add(alloc, copy, is_line)?;
         Ok(())
     }
 
@@ -171,7 +171,7 @@ impl Checker {
         self.settle()?;
         let accepted = self.is_rup(line)?;
         if accepted {
-            self.keep(alloc, line)?;
+            self.keep(alloc, line, true)?;
         }
         Ok(accepted)
     }

@@ -2,6 +2,7 @@
 //! code with any solver.
 #![tactic(auto)]
 
+mod aside;
 mod checker;
 mod derivation;
 mod error;

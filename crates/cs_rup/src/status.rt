@@ -7,11 +7,11 @@ use crate::values::Values;
 use crate::watch::{Spot, Watch};
 use cs_base::Lit;
 
-/// What a clause asks for: nothing, since a literal is true or since two are not false; that a literal is set true;
-/// or it is a conflict.
+/// What a clause asks for: nothing, since this literal is true or since two are not false; that a literal is set
+/// true; or it is a conflict.
 #[derive(Clone, Copy)]
 pub enum Status {
-    Satisfied,
+    Satisfied(Lit),
     Open(Watch),
     Unit(Lit),
     Falsified,
@@ -71,17 +71,21 @@ fn sought_from(values: &Values, lits: &[Lit], skip: Option<Lit>, from: usize) ->
     }
 }
 
-/// What a clause of these literals asks for. The search begins at the places of `watch`.
-pub fn status_of(values: &Values, lits: &[Lit], watch: Watch) -> Status
+/// What a clause of these literals asks for. The search begins at the places of `watch`, if there is one.
+pub fn status_of(values: &Values, lits: &[Lit], watch: Option<Watch>) -> Status
     ensures { Asks (setting_of values.now) lits.now result }
 {
-    let Some(one) = sought_from(values, lits, None, watch.one.at) else {
+    let (first, second) = match watch {
+        Some(watch) => (watch.one.at, watch.other.at),
+        None => (0, 1),
+    };
+    let Some(one) = sought_from(values, lits, None, first) else {
         return Status::Falsified;
     };
     if values.is_true(one.lit) {
-        return Status::Satisfied;
+        return Status::Satisfied(one.lit);
     }
-    match sought_from(values, lits, Some(one.lit), watch.other.at) {
+    match sought_from(values, lits, Some(one.lit), second) {
         Some(other) => Status::Open(Watch { one, other }),
         None => Status::Unit(one.lit),
     }

@@ -1,22 +1,25 @@
 // Clauses, each watched by two of its literals (Moskewicz et al. 2001).
-ghost use Rattle.std.specs.Prelude.{◌≡◌, ◌++◌, ◌<◌, ◌-◌, ℕ, [], ◌∷◌, length, slice_get, slice_set, slice_index_or, Some, Contains, IsTrue, OnOk, OnErr, IfOk};
+ghost use Rattle.std.specs.Prelude.{◌≡◌, ◌++◌, ◌<◌, ◌≤◌, ℕ, [], ◌∷◌, length, slice_get, slice_set, Some, IsTrue, OnOk, OnErr, IfOk, IfSome, IfNone, Contains};
+ghost use Rattle.cs_base.specs.declared.formula.Clause.{Clause as Lits};
 ghost use Rattle.cs_rup.specs.declared.watch.Watch.{Watch as Pair};
-ghost use Rattle.cs_rup.specs.Stores.{AreListed, AreSame, ListsGrow, HasList, KeepsWatches, list_of, place_of as place_of_lit};
+ghost use Rattle.cs_rup.specs.Watchers.{HasPlace};
+ghost use Rattle.cs_rup.specs.Stores.{AreListed, AreSame, ListsGrow, HasList, IsBlocked, IsAmongAt, KeepsBefore, KeepsWatches, list_of, list_at, place_of as place_of_lit};
 
+use crate::aside::Aside;
 use crate::status::is_same;
-use crate::watch::Watch;
+use crate::watch::{Watch, Watched, Watchers};
 use cs_base::{Clause, Lit, Sequence};
 use std::alloc::{AllocError, Global};
 
-/// Clauses, the two literals by which each is watched, and lists of the clauses' places by literal. A literal's list
-/// has the place of each clause that it watches. It may have others, since the number of lists is fixed and literals
-/// share them.
+/// Clauses, the two literals by which each is watched, and lists of watched clauses by literal. A clause has no
+/// watch until it is looked at. A literal's list has the place of each clause that it watches. It may have others,
+/// since the number of lists is fixed and literals may share them.
 #[derive(Drop)]
 pub struct Store {
     pub clauses: Sequence<Clause>,
-    pub watches: Vec<Watch>,
-    pub lists: Vec<Sequence<usize>>,
-    alloc: Global,
+    pub watches: Vec<Option<Watch>>,
+    pub lists: Vec<Watchers>,
+    aside: Aside,
 }
 
 // The place of a literal's list among `count` lists.
@@ -26,15 +29,17 @@ fn place_of(count: usize, lit: Lit) -> usize
     ensures place { result ≡ place_of_lit count lit }
 {
     let sign = if lit.positive { 0 } else { 1 };
-    (2 * lit.var as usize + sign) % count
+    let code = 2 * lit.var as usize + sign;
+    if code < count { code } else { code % count }
 }
 
-fn empty_lists(alloc: Global, count: usize) -> Result<Vec<Sequence<usize>>, AllocError>
-    ensures { IfOk result (λ lists. length lists.items ≡ count) }
+fn empty_lists(alloc: Global, count: usize) -> Result<Vec<Watchers>, AllocError>
+    ensures count { IfOk result (λ lists. length lists.items ≡ count) }
+    ensures empty { IfOk result (λ lists. (index : ℕ) → list_at lists.items index ≡ []) }
 {
     let mut lists = Vec::new(alloc);
     for _ in 0..count {
-        lists.push(Sequence::new(alloc))?;
+        lists.push(Watchers::new(alloc))?;
     }
     Ok(lists)
 }
@@ -50,146 +55,173 @@ impl Store {
             clauses: Sequence::new(alloc),
             watches: Vec::new(alloc),
             lists: empty_lists(alloc, count)?,
-            alloc,
+            aside: Aside::new(alloc),
         })
     }
 
-    /// A copy of a literal's list.
-    pub fn copy_of_list(&self, lit: Lit) -> Result<Vec<usize>, AllocError>
-        requires { AreListed self.now }
-        ensures { IfOk result (λ places. places.items ≡ list_of self.now.lists.items lit) }
+    /// The place of a literal's list.
+    pub fn index_of(&self, lit: Lit) -> usize
+        requires { 0 < length self.now.lists.items }
+        ensures within { result < length self.now.lists.items }
+        ensures place { result ≡ place_of_lit (length self.now.lists.items) lit }
     {
-        let index = place_of(self.lists.len(), lit);
-        Vec::from_slice(self.alloc, self.lists[index].as_slice())
+        place_of(self.lists.len(), lit)
     }
 
-    // Puts a place into a literal's list.
-    fn put(&mut self, lit: Lit, place: usize) -> Result<(), AllocError>
-        requires { 0 < length self.old.lists.items }
+    /// How many clauses a list has.
+    pub fn count_at(&self, index: usize) -> usize
+        requires { index < length self.now.lists.items }
+        ensures { result ≡ length (list_at self.now.lists.items index) }
+    {
+        self.lists[index].len()
+    }
+
+    /// The clause at a place of a list.
+    pub fn watched_at(&self, index: usize, at: usize) -> Option<Watched>
+        requires { index < length self.now.lists.items }
+        ensures some { IfSome result (λ watched. slice_get (list_at self.now.lists.items index) at ≡ Some watched) }
+        ensures none { IfNone result (length (list_at self.now.lists.items index) ≤ at) }
+    {
+        self.lists[index].get(at)
+    }
+
+    /// Whether the clause of a place is one to look at last.
+    pub fn is_last(&self, place: usize) -> bool {
+        self.aside.has(place)
+    }
+
+    // Puts a clause into a literal's list.
+    fn put(&mut self, lit: Lit, watched: Watched) -> Result<(), AllocError>
+        requires listed { AreListed self.old }
+        requires blocked { IsBlocked self.old.clauses watched }
+        ensures listed { AreListed self.new }
         ensures same { AreSame self.old self.new }
         ensures grow { ListsGrow self.old.lists.items self.new.lists.items }
-        ensures ok { OnOk result (Contains (list_of self.new.lists.items lit) place) }
+        ensures ok { OnOk result (HasPlace (list_of self.new.lists.items lit) watched.place) }
     {
         let index = place_of(self.lists.len(), lit);
-        self.lists[index].push(place)?;
+        self.lists[index].push(watched)?;
         Ok(())
     }
 
-    // Puts a place into a literal's list, unless the literal watches that clause already.
-    fn put_new(&mut self, lit: Lit, place: usize) -> Result<(), AllocError>
+    // Puts a clause into a literal's list, unless the literal watches it already.
+    fn put_new(&mut self, lit: Lit, watched: Watched) -> Result<(), AllocError>
         requires listed { AreListed self.old }
-        requires within { place < length self.old.watches.items }
+        requires blocked { IsBlocked self.old.clauses watched }
+        requires within { watched.place < length self.old.watches.items }
+        ensures listed { AreListed self.new }
         ensures same { AreSame self.old self.new }
         ensures grow { ListsGrow self.old.lists.items self.new.lists.items }
-        ensures ok { OnOk result (Contains (list_of self.new.lists.items lit) place) }
+        ensures ok { OnOk result (HasPlace (list_of self.new.lists.items lit) watched.place) }
     {
-        let watch = self.watches[place];
-        if is_same(watch.one.lit, lit) {
-            return Ok(());
+        if let Some(watch) = self.watches[watched.place] {
+            if is_same(watch.one.lit, lit) {
+                return Ok(());
+            }
+            if is_same(watch.other.lit, lit) {
+                return Ok(());
+            }
         }
-        if is_same(watch.other.lit, lit) {
-            return Ok(());
-        }
-        self.put(lit, place)
+        self.put(lit, watched)
     }
 
-    /// Watches a clause by other literals.
+    /// Watches a clause by other literals of it.
     pub fn rewatch(&mut self, place: usize, watch: Watch) -> Result<(), AllocError>
         requires listed { AreListed self.old }
-        requires within { place < length self.old.watches.items }
+        requires among { (clause : Lits) × (slice_get self.old.clauses place ≡ Some clause)
+            × Contains clause.lits watch.one.lit × Contains clause.lits watch.other.lit }
         ensures listed { AreListed self.new }
         ensures clauses { self.new.clauses ≡ self.old.clauses }
-        ensures ok { OnOk result (self.new.watches.items ≡ slice_set self.old.watches.items place watch) }
+        ensures grow { ListsGrow self.old.lists.items self.new.lists.items }
+        ensures ok { OnOk result (self.new.watches.items ≡ slice_set self.old.watches.items place (Some watch)) }
         ensures err { OnErr result (self.new.watches.items ≡ self.old.watches.items) }
     {
-        self.put_new(watch.one.lit, place)?;
-        self.put_new(watch.other.lit, place)?;
-        self.watches[place] = watch;
+        let (one, other) = (watch.one.lit, watch.other.lit);
+        self.put_new(one, Watched { place, other })?;
+        self.put_new(other, Watched { place, other: one })?;
+        self.watches[place] = Some(watch);
         Ok(())
     }
 
     // Whether a literal of this list watches the clause.
     fn has_list(&self, index: usize, place: usize) -> bool
         requires { 0 < length self.now.lists.items }
-        ensures { (watch : Pair) → slice_get self.now.watches.items place ≡ Some watch
+        ensures { (watch : Pair) → slice_get self.now.watches.items place ≡ Some (Some watch)
             → HasList (length self.now.lists.items) index watch → IsTrue result }
     {
         let count = self.lists.len();
         match self.watches.as_slice().get(place) {
-            Some(watch) => {
+            Some(Some(watch)) => {
                 place_of(count, watch.one.lit) == index || place_of(count, watch.other.lit) == index
             }
-            None => false,
+            _ => false,
         }
     }
 
-    // Puts a place behind the others if a literal of this list watches its clause.
-    fn keep_if(&self, kept: &mut Vec<usize>, index: usize, place: usize) -> Result<(), AllocError>
-        requires { 0 < length self.now.lists.items }
-        ensures grows { (other : ℕ) → Contains kept.old.items other → Contains kept.new.items other }
-        ensures has { OnOk result ((watch : Pair) → slice_get self.now.watches.items place ≡ Some watch
-            → HasList (length self.now.lists.items) index watch → Contains kept.new.items place) }
-    {
-        if self.has_list(index, place) {
-            kept.push(place)?;
-            return Ok(());
-        }
-        Ok(())
-    }
-
-    // The places of a list whose clauses are watched by a literal of it.
-    fn swept(&self, index: usize) -> Result<Sequence<usize>, AllocError>
-        requires some { 0 < length self.now.lists.items }
-        requires within { index < length self.now.lists.items }
-        ensures { IfOk result (λ kept. (place : ℕ) (watch : Pair)
-            → Contains (slice_index_or self.now.lists.items index []) place
-            → slice_get self.now.watches.items place ≡ Some watch
-            → HasList (length self.now.lists.items) index watch → Contains kept place) }
-    {
-        let places = self.lists[index].as_slice();
-        let mut kept = Vec::with_capacity(self.alloc, places.len())?;
-        for place in places {
-            self.keep_if(&mut kept, index, *place)?;
-        }
-        Ok(Sequence::from_vec(kept))
-    }
-
-    /// Takes those places from a literal's list whose clauses no literal of it watches any more.
-    pub fn sweep(&mut self, lit: Lit) -> Result<(), AllocError>
-        requires { AreListed self.old }
+    // Takes the clause at a place of a list out of it, unless a literal of this list watches the clause.
+    fn forget(&mut self, index: usize, at: usize)
+        requires listed { AreListed self.old }
+        requires within { index < length self.old.lists.items }
         ensures listed { AreListed self.new }
         ensures same { AreSame self.old self.new }
+        ensures count { length self.new.lists.items ≡ length self.old.lists.items }
+        ensures before { KeepsBefore self.old.lists.items self.new.lists.items index at }
     {
-        let index = place_of(self.lists.len(), lit);
-        self.lists[index] = self.swept(index)?;
-        Ok(())
+        let Some(watched) = self.watched_at(index, at) else {
+            return;
+        };
+        if self.has_list(index, watched.place) {
+            return;
+        }
+        self.lists[index].take_out(at);
     }
 
-    /// Puts a clause behind the others; a refusal leaves the clauses unchanged.
-    pub fn add(&mut self, clause: Clause) -> Result<(), AllocError>
+    // Puts a literal beside the clause at a place of a list.
+    fn block(&mut self, index: usize, at: usize, lit: Lit)
+        requires listed { AreListed self.old }
+        requires within { index < length self.old.lists.items }
+        requires among { IsAmongAt self.old index at lit }
+        ensures listed { AreListed self.new }
+        ensures same { AreSame self.old self.new }
+        ensures count { length self.new.lists.items ≡ length self.old.lists.items }
+        ensures before { KeepsBefore self.old.lists.items self.new.lists.items index at }
+    {
+        let Some(watched) = self.watched_at(index, at) else {
+            return;
+        };
+        let place = watched.place;
+        self.lists[index].set(at, Watched { place, other: lit });
+    }
+
+    /// After a look at the clause at a place of a list: the literal that was found true stands beside it from now
+    /// on, or else it is taken out of the list, unless a literal of this list watches it.
+    pub fn note(&mut self, index: usize, at: usize, found: Option<Lit>)
+        requires listed { AreListed self.old }
+        requires within { index < length self.old.lists.items }
+        requires among { IfSome found (IsAmongAt self.old index at) }
+        ensures listed { AreListed self.new }
+        ensures same { AreSame self.old self.new }
+        ensures count { length self.new.lists.items ≡ length self.old.lists.items }
+        ensures before { KeepsBefore self.old.lists.items self.new.lists.items index at }
+    {
+        match found {
+            Some(lit) => self.block(index, at, lit),
+            None => self.forget(index, at),
+        }
+    }
+
+    /// Puts a clause, or a line, behind the others, which no literal watches yet; a refusal leaves the clauses
+    /// unchanged.
+    pub fn add(&mut self, alloc: Global, clause: Clause, is_line: bool) -> Result<(), AllocError>
         requires { AreListed self.old }
         ensures listed { AreListed self.new }
         ensures kept { KeepsWatches self.old self.new }
         ensures ok { OnOk result (self.new.clauses ≡ self.old.clauses ++ clause ∷ []) }
         ensures err { OnErr result (self.new.clauses ≡ self.old.clauses) }
     {
-        self.watch_next(Watch::first(clause.lits.as_slice()))?;
+        self.aside.add(alloc, clause.lits.len(), is_line)?;
+        self.watches.push(None)?;
         self.clauses.push(clause)?;
-        Ok(())
-    }
-
-    // Puts a watch behind the others.
-    fn watch_next(&mut self, watch: Watch) -> Result<(), AllocError>
-        requires { AreListed self.old }
-        ensures listed { AreListed self.new }
-        ensures clauses { self.new.clauses ≡ self.old.clauses }
-        ensures kept { KeepsWatches self.old self.new }
-        ensures ok { OnOk result (length self.old.watches.items < length self.new.watches.items) }
-    {
-        let place = self.watches.len();
-        self.put(watch.one.lit, place)?;
-        self.put(watch.other.lit, place)?;
-        self.watches.push(watch)?;
         Ok(())
     }
 }

@@ -1,14 +1,17 @@
 -- Both literals' lists have the place.
-use Rattle.std.proofs.Common.{ap, ◌∙◌}
-use Rattle.std.specs.Prelude.{slice_set}
-use Rattle.cs_rup.proofs.Stores.{grow_more, listed_set}
+use Rattle.std.proofs.Common.{◌<◌, length, refl, arith, ap}
+use Rattle.std.proofs.lemmas.Option.{slice_get_within}
+use Rattle.cs_rup.proofs.Stores.{has_grown, listed_set}
 use Rattle.cs_rup.proofs.store.Store.rewatch.Goals as goal
 
 pub returns-clause-listed : goal.returns-clause-listed
 returns-clause-listed c =
-    listed_set c.args.self.now _ c.args.place c.args.watch c.requires.listed c.requires.within
-    (c.put_new-2.ensures.same.clauses ∙ c.put_new.ensures.same.clauses)
-    (ap (λ ws. slice_set ws c.args.place c.args.watch) (c.put_new-2.ensures.same.watches ∙ c.put_new.ensures.same.watches))
-    (grow_more c.args.self.now.lists.items c.put_new.new.self.lists.items c.put_new-2.new.self.lists.items
-    c.put_new.ensures.grow c.put_new-2.ensures.grow)
-    (c.put_new-2.ensures.grow.keeps c.args.watch.one.lit c.args.place c.in_ok-put_new.ensures.ok, c.in_ok-put_new-2.ensures.ok)
+    let within : c.args.place < length c.put_new-2.new.self.watches.items =
+    let enough = c.requires.listed.enough in
+    let there = slice_get_within c.args.self.now.clauses c.args.place c.requires.among.0 c.requires.among.1 in
+    omega (arith, ap length c.put_new-2.ensures.same.watches, ap length c.put_new.ensures.same.watches) in
+    listed_set c.put_new-2.new.self _ c.args.place c.args.watch c.put_new-2.ensures.listed within refl refl refl (
+      has_grown c.put_new.new.self.lists.items c.put_new-2.new.self.lists.items c.args.watch.one.lit c.args.place
+          c.put_new-2.ensures.grow c.in_ok-put_new.ensures.ok,
+      c.in_ok-put_new-2.ensures.ok,
+    )

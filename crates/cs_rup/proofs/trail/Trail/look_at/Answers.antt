@@ -6,14 +6,17 @@ use Rattle.cs_base.specs.declared.formula.Clause.{Clause as Lits}
 use Rattle.cs_rup.specs.Settings.{Asks}
 use Rattle.cs_rup.specs.Stores.{IsWatched}
 use Rattle.cs_rup.specs.Trails.{set_by, StaysSound, ExplainsAny}
-use Rattle.cs_rup.proofs.Lists.{contains_at, read_at, on_ok, if_err}
+use Rattle.cs_rup.proofs.Lists.{contains_at, read_at, on_ok, if_err, if_ok_some}
 use Rattle.cs_rup.proofs.Stores.{rewatched_at}
 use Rattle.cs_rup.proofs.trail.Trail.look_at.Goals as goal
 
 pub follow-requires-clause-asked : goal.follow-requires-clause-asked
 follow-requires-clause-asked c =
-    let s = set_by c.args.self.now in (
-      c.in-Some.clause.now.lits,
+    let s = set_by c.args.self.now in
+    let clause = c.in-Some.clause.now in (
+      clause,
+      read_at c.as_slice.result.now c.args.store.now.clauses c.args.place clause c.as_slice.ensures
+          c.in-Some.ensures.lookup.3.0 c.in-Some.ensures.lookup.1,
       subst (λ lits. Asks s lits c.status_of-status.result) c.as_slice-2.ensures c.status_of-status.ensures,
     )
 
@@ -75,3 +78,19 @@ returns-clause-err c =
     → ExplainsAny clauses c.args.self.now stop)
     (λ stop. ExplainsAny all c.args.self.now stop)
     (λ stop explains. explains all clause (contains_at all c.args.place clause found) asks) c.follow.ensures.err
+
+pub returns-clause-among : goal.returns-clause-among
+returns-clause-among c =
+    let s = set_by c.args.self.now in
+    let clause = c.in-Some.clause.now in
+    let found : slice_get c.args.store.now.clauses c.args.place ≡ Some clause =
+    read_at c.as_slice.result.now c.args.store.now.clauses c.args.place clause c.as_slice.ensures
+    c.in-Some.ensures.lookup.3.0 c.in-Some.ensures.lookup.1 in
+    let asks = subst (λ lits. Asks s lits c.status_of-status.result) c.as_slice-2.ensures c.status_of-status.ensures in
+    if_ok_some c.follow.result
+    (λ lit. (lits : List Literal) → Asks s lits c.status_of-status.result → Contains lits lit)
+    (λ lit. (other : Lits) → slice_get c.args.store.now.clauses c.args.place ≡ Some other → Contains other.lits lit)
+    (λ lit among other at.
+    let one : clause ≡ other = cc in
+    subst (λ (l : Lits). Contains l.lits lit) one (among clause.lits asks))
+    c.follow.ensures.among
