@@ -1,19 +1,22 @@
 // Rows of the Yosys cell library.
+use crate::fixtures::assert_row;
 use cs_base::{Formula, Lit, Sequence};
 use cs_cells::{Class, FfKind, Kind, ResetKind, class_of};
 
+const CLASSES: &[(&str, Class)] = &[
+    ("$_MUX4_", Class::Gate(Kind::Mux4)),
+    ("$_AOI3_", Class::Gate(Kind::Aoi3)),
+    ("$mem_v2", Class::Memory),
+    ("$scopeinfo", Class::Scope),
+    ("$_DFF_PN0_", Class::Asynchronous),
+    ("$and", Class::NotFine),
+    ("$paramod\\m", Class::Unknown),
+];
+
 #[test]
 fn type_names_have_classes(rt: HostRuntime) {
-    for (name, class) in [
-        ("$_MUX4_", Class::Gate(Kind::Mux4)),
-        ("$_AOI3_", Class::Gate(Kind::Aoi3)),
-        ("$mem_v2", Class::Memory),
-        ("$scopeinfo", Class::Scope),
-        ("$_DFF_PN0_", Class::Asynchronous),
-        ("$and", Class::NotFine),
-        ("$paramod\\m", Class::Unknown),
-    ] {
-        assert!(rt; class_of(name) == class, "{name}");
+    for (name, class) in CLASSES {
+        assert_row(&rt, class_of(name) == *class, name);
     }
 }
 

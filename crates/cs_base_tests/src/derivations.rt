@@ -1,4 +1,5 @@
 // Formulas and lines, by their numbers: a negative one is a negated variable.
+use crate::fixtures::{assert_at, keep};
 use cs_base::{Clause, Derivation, Formula, Lit, Sequence};
 use cs_rup::{Checker, check};
 use std::alloc::Global;
@@ -29,7 +30,7 @@ fn clauses(rt: &impl Abort, alloc: Global, rows: &[&[i32]]) -> Sequence<Clause> 
 type Rows = &'static [&'static [i32]];
 
 // Formulas with the number of their variables, lines, and whether these are a derivation.
-const DERIVATIONS: [(u32, Rows, Rows, bool); 16] = [
+const DERIVATIONS: &[(u32, Rows, Rows, bool)] = &[
     (2, &[&[1, 2], &[-1], &[-2]], &[&[]], true),
     (2, &[&[1, 2], &[-1], &[-2]], &[&[2], &[]], true),
     (2, &[&[1, 2], &[-1], &[-2]], &[&[2]], false),
@@ -71,23 +72,29 @@ const DERIVATIONS: [(u32, Rows, Rows, bool); 16] = [
     (2, &[&[1, 1], &[2, -2]], &[&[2], &[]], false),
 ];
 
+fn formula(rt: &impl Abort, alloc: Global, vars: u32, rows: Rows) -> &'static Formula {
+    let clauses = clauses(rt, alloc, rows);
+    keep(rt, alloc, Formula { vars, clauses })
+}
+
+fn is_derivation(rt: &impl Abort, alloc: Global, f: &Formula, rows: Rows) -> bool {
+    let lines = clauses(rt, alloc, rows);
+    let lines = keep(rt, alloc, Derivation { lines });
+    check(alloc, f, lines).expect(rt, "an answer")
+}
+
 #[test]
 fn derivations_are_told_from_others(rt: HostRuntime) {
     let alloc = rt.alloc();
-    for (row, (vars, formula, lines, wanted)) in DERIVATIONS.iter().enumerate() {
-        let clauses_of = clauses(&rt, alloc, formula);
-        let f = Formula {
-            vars: *vars,
-            clauses: clauses_of,
-        };
-        let lines = clauses(&rt, alloc, lines);
-        let found = check(alloc, &f, &Derivation { lines }).expect(&rt, "an answer");
-        assert!(rt; found == *wanted, "row {row}");
+    for (row, (vars, rows, lines, wanted)) in DERIVATIONS.iter().enumerate() {
+        let f = formula(&rt, alloc, *vars, rows);
+        let found = is_derivation(&rt, alloc, f, lines);
+        assert_at(&rt, found == *wanted, row);
     }
 }
 
 // Formulas of two variables, and lines with whether they are accepted one behind the other.
-const LINES: [(Rows, &[(&[i32], bool)]); 4] = [
+const LINES: &[(Rows, &[(&[i32], bool)])] = &[
     (&[&[1, 2], &[-1], &[-2]], &[(&[2], true)]),
     (
         &[&[1, 2], &[-1]],
@@ -108,17 +115,16 @@ const LINES: [(Rows, &[(&[i32], bool)]); 4] = [
 fn assert_lines(rt: &impl Abort, alloc: Global, f: &Formula, lines: &[(&[i32], bool)]) {
     let mut checker = Checker::new(alloc, f).expect(rt, "a checker");
     for (place, (numbers, wanted)) in lines.iter().enumerate() {
-        let line = clause(rt, alloc, numbers);
-        let found = checker.add(alloc, &line).expect(rt, "an answer");
-        assert!(rt; found == *wanted, "line {place}");
+        let line = keep(rt, alloc, clause(rt, alloc, numbers));
+        let found = checker.add(alloc, line).expect(rt, "an answer");
+        assert_at(rt, found == *wanted, place);
     }
 }
 
 #[test]
 fn lines_are_accepted_one_by_one(rt: HostRuntime) {
     let alloc = rt.alloc();
-    for (formula, lines) in LINES {
-        let clauses = clauses(&rt, alloc, formula);
-        assert_lines(&rt, alloc, &Formula { vars: 2, clauses }, lines);
+    for (rows, lines) in LINES {
+        assert_lines(&rt, alloc, formula(&rt, alloc, 2, rows), lines);
     }
 }

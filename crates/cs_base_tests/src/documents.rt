@@ -1,9 +1,12 @@
 // Documents read and printed, against texts that were written by hand or by Yosys.
+use crate::fixtures::{assert_at, assert_row, keep};
 use cs_base::{BitId, Signal};
 use cs_json::{
-    CellDecl, Datum, Direction, DocError, Module, NetDecl, PortDecl, print_document, read_document,
+    CellDecl, Datum, Direction, DocError, Document, Module, NetDecl, PortDecl, print_document,
+    read_document,
 };
 use std::alloc::Global;
+use std::process::Abort;
 
 // One register with the start 1.
 const ONE_REGISTER: &str =
@@ -50,59 +53,80 @@ const TWO_REGISTERS_ANOTHER_WAY: &str =
     : 1}}, \"attributes\": {\"top\": \"00000000000000000000000000000001\", \"src\": [\"x\
     \"]}}}, \"creator\": \"another program\"}";
 
-fn is_not_json(alloc: Global, bytes: &[u8]) -> bool {
-    matches!(&read_document(alloc, bytes), Err(DocError::NotJson))
+// What a text is read as.
+fn read(rt: &impl Abort, alloc: Global, text: &[u8]) -> &'static Result<Document, DocError> {
+    keep(rt, alloc, read_document(alloc, text))
+}
+
+fn is_not_json(answer: &Result<Document, DocError>) -> bool {
+    matches!(answer, Err(DocError::NotJson))
 }
 
 #[test]
 fn cut_documents(rt: HostRuntime) {
+    let alloc = rt.alloc();
     assert!(rt; CUT_INVERTER.len() == 60);
-    assert!(rt; is_not_json(rt.alloc(), CUT_INVERTER.as_bytes()));
+    assert!(rt; is_not_json(read(&rt, alloc, CUT_INVERTER.as_bytes())));
     let bytes = ONE_REGISTER.as_bytes();
     for len in 0..bytes.len() {
-        assert!(rt; is_not_json(rt.alloc(), &bytes[..len]), "{len} bytes");
+        assert_at(&rt, is_not_json(read(&rt, alloc, &bytes[..len])), len);
     }
 }
 
 #[test]
 fn lists_in_each_other(rt: HostRuntime) {
-    let mut deep = vec![in rt.alloc(); b'['; 200].expect(&rt, "200 lists");
-    deep.extend_from_slice(&[b']'; 200])
-        .expect(&rt, "200 lists");
-    assert!(rt; is_not_json(rt.alloc(), deep.as_slice()));
+    let mut deep = [b'['; 400];
+    deep[200..].fill(b']');
+    assert!(rt; is_not_json(read(&rt, rt.alloc(), &deep)));
 }
 
-fn is_refused_at(alloc: Global, text: &str, place: &str) -> bool {
-    match read_document(alloc, text.as_bytes()) {
+fn is_refused_at(answer: &Result<Document, DocError>, place: &str) -> bool {
+    match answer {
         Err(DocError::BadShape { at }) => at.path.as_str() == place,
         _ => false,
     }
 }
 
+// Texts and the places that are refused in them.
+const REFUSED: &[(&str, &str)] = &[
+    ("[]", ""),
+    ("{}", "/modules"),
+    ("{\"modules\":[]}", "/modules"),
+    (
+        "{\"modules\":{\"a/b~c\":{\"ports\":{\"p\":{\"direction\":1}}}}}",
+        "/modules/a~1b~0c/ports/p/bits",
+    ),
+    (
+        "{\"modules\":{\"t\":{\"ports\":{\"\\u00fc\":{\"bits\":[2,\"0\"],\"direction\":\"input\"}}}}}",
+        "/modules/t/ports/\u{fc}/bits/1",
+    ),
+    (
+        "{\"modules\":{\"t\":{\"netnames\":{\"n\":{\"bits\":[4294967294,4294967295]}}}}}",
+        "/modules/t/netnames/n/bits/1",
+    ),
+    (
+        "{\"modules\":{\"t\":{\"cells\":{\"c\":{\"connections\":{\"Y\":[2e0]},\"type\":\"g\"}}}}}",
+        "/modules/t/cells/c/connections/Y/0",
+    ),
+];
+
 #[test]
 fn refused_places(rt: HostRuntime) {
-    for (text, place) in [
-        ("[]", ""),
-        ("{}", "/modules"),
-        ("{\"modules\":[]}", "/modules"),
-        (
-            "{\"modules\":{\"a/b~c\":{\"ports\":{\"p\":{\"direction\":1}}}}}",
-            "/modules/a~1b~0c/ports/p/bits",
-        ),
-        (
-            "{\"modules\":{\"t\":{\"ports\":{\"\\u00fc\":{\"bits\":[2,\"0\"],\"direction\":\"input\"}}}}}",
-            "/modules/t/ports/\u{fc}/bits/1",
-        ),
-        (
-            "{\"modules\":{\"t\":{\"netnames\":{\"n\":{\"bits\":[4294967294,4294967295]}}}}}",
-            "/modules/t/netnames/n/bits/1",
-        ),
-        (
-            "{\"modules\":{\"t\":{\"cells\":{\"c\":{\"connections\":{\"Y\":[2e0]},\"type\":\"g\"}}}}}",
-            "/modules/t/cells/c/connections/Y/0",
-        ),
-    ] {
-        assert!(rt; is_refused_at(rt.alloc(), text, place), "{text}");
+    for (text, place) in REFUSED {
+        let answer = read(&rt, rt.alloc(), text.as_bytes());
+        assert_row(&rt, is_refused_at(answer, place), text);
+    }
+}
+
+// The one module of a text.
+fn module(rt: &impl Abort, alloc: Global, text: &str) -> &'static Module {
+    match read(rt, alloc, text.as_bytes()) {
+        Ok(doc) => {
+            let modules = doc.modules.as_slice();
+            assert!(rt; modules.len() == 1);
+            &modules[0]
+        }
+        Err(_) => panic!(rt; "a document is refused"),
     }
 }
 
@@ -140,8 +164,7 @@ fn has_one_register(module: &Module) -> bool {
 
 #[test]
 fn one_register_is_read(rt: HostRuntime) {
-    let doc = read_document(rt.alloc(), ONE_REGISTER.as_bytes()).expect(&rt, "a document");
-    assert!(rt; matches!(doc.modules.as_slice(), [module] if has_one_register(module)));
+    assert!(rt; has_one_register(module(&rt, rt.alloc(), ONE_REGISTER)));
 }
 
 // Whether the attributes are the greatest and the least whole number that is kept.
@@ -157,8 +180,7 @@ fn has_numbers(module: &Module) -> bool {
 fn numbers_of_attributes(rt: HostRuntime) {
     let text = "{\"modules\":{\"t\":{\"attributes\":{\"a\":18446744073709551616,\
         \"b\":18446744073709551615,\"c\":-2147483648,\"d\":-2147483649,\"e\":null}}}}";
-    let doc = read_document(rt.alloc(), text.as_bytes()).expect(&rt, "a document");
-    assert!(rt; matches!(doc.modules.as_slice(), [module] if has_numbers(module)));
+    assert!(rt; has_numbers(module(&rt, rt.alloc(), text)));
 }
 
 fn is_line(bytes: &[u8], text: &str) -> bool {
@@ -168,15 +190,22 @@ fn is_line(bytes: &[u8], text: &str) -> bool {
     }
 }
 
+fn prints(rt: &impl Abort, alloc: Global, text: &str, printed: &str) -> bool {
+    let doc = read_document(alloc, text.as_bytes()).expect(rt, "a document");
+    let bytes = print_document(alloc, keep(rt, alloc, doc)).expect(rt, "a text");
+    is_line(bytes.as_slice(), printed)
+}
+
+// Documents, and how they print but for the newline.
+const PRINTED: &[(&str, &str)] = &[
+    (TWO_REGISTERS_ANOTHER_WAY, TWO_REGISTERS),
+    (TWO_REGISTERS, TWO_REGISTERS),
+    ("{\"modules\":{}}", "{\"creator\":\"cslow\",\"modules\":{}}"),
+];
+
 #[test]
 fn documents_print_to_the_byte(rt: HostRuntime) {
-    for (text, printed) in [
-        (TWO_REGISTERS_ANOTHER_WAY, TWO_REGISTERS),
-        (TWO_REGISTERS, TWO_REGISTERS),
-        ("{\"modules\":{}}", "{\"creator\":\"cslow\",\"modules\":{}}"),
-    ] {
-        let doc = read_document(rt.alloc(), text.as_bytes()).expect(&rt, "a document");
-        let bytes = print_document(rt.alloc(), &doc).expect(&rt, "a text");
-        assert!(rt; is_line(bytes.as_slice(), printed), "{printed}");
+    for (text, printed) in PRINTED {
+        assert_row(&rt, prints(&rt, rt.alloc(), text, printed), printed);
     }
 }

@@ -14,6 +14,8 @@ mod documents;
 #[cfg(test)]
 mod files;
 #[cfg(test)]
+mod fixtures;
+#[cfg(test)]
 mod orders;
 #[cfg(test)]
 mod streams;

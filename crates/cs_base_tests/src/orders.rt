@@ -1,4 +1,5 @@
 // Graphs by the sources of each vertex, and the orders or the loops that they have.
+use crate::fixtures::assert_at;
 use cs_order::{Arrangement, Dependencies, arrange};
 use std::alloc::Global;
 use std::process::Abort;
@@ -44,7 +45,7 @@ fn is_loop(found: Arrangement, loops: Rows) -> bool {
     }
 }
 
-const WITH_ORDERS: [(Rows, Rows); 7] = [
+const WITH_ORDERS: &[(Rows, Rows)] = &[
     (&[], &[&[]]),
     (&[&[]], &[&[0]]),
     (&[&[], &[0], &[1], &[2]], &[&[0, 1, 2, 3]]),
@@ -55,7 +56,7 @@ const WITH_ORDERS: [(Rows, Rows); 7] = [
 ];
 
 // A tail that leads to a loop is no part of it.
-const WITH_LOOPS: [(Rows, Rows); 3] = [
+const WITH_LOOPS: &[(Rows, Rows)] = &[
     (&[&[0]], &[&[0]]),
     (&[&[1], &[0], &[3], &[2]], &[&[0, 1], &[2, 3]]),
     (&[&[1], &[2], &[3], &[4], &[2]], &[&[2, 3, 4]]),
@@ -64,19 +65,13 @@ const WITH_LOOPS: [(Rows, Rows); 3] = [
 #[test]
 fn graphs_with_orders(rt: HostRuntime) {
     for (row, (rows, orders)) in WITH_ORDERS.iter().enumerate() {
-        assert!(rt;
-            is_order(arranged(&rt, rt.alloc(), rows), orders),
-            "row {row}"
-        );
+        assert_at(&rt, is_order(arranged(&rt, rt.alloc(), rows), orders), row);
     }
 }
 
 #[test]
 fn graphs_with_loops(rt: HostRuntime) {
     for (row, (rows, loops)) in WITH_LOOPS.iter().enumerate() {
-        assert!(rt;
-            is_loop(arranged(&rt, rt.alloc(), rows), loops),
-            "row {row}"
-        );
+        assert_at(&rt, is_loop(arranged(&rt, rt.alloc(), rows), loops), row);
     }
 }

@@ -1,6 +1,7 @@
 // Rows of bits and their texts.
 ghost use Rattle.std.specs.Prelude.{◌≡◌, ◌≤◌, length};
 
+use crate::fixtures::assert_at;
 use cs_base::Contexts;
 use cs_stream::{StimError, Stimulus, mix, part, print_response, read_stimulus, width_of};
 use std::alloc::Global;
@@ -20,45 +21,60 @@ fn are_rows(alloc: Global, rows: &Stimulus, text: &[u8]) -> bool {
     }
 }
 
+// Texts, widths and faults.
+const FAULTS: &[(&[u8], usize, StimError)] = &[
+    (b"1\n2\n", 1, StimError::Character { line: 2, column: 1 }),
+    (b"1\n01\n", 1, StimError::Width { line: 2 }),
+    (
+        b"01\n1x\n\n",
+        2,
+        StimError::Character { line: 2, column: 2 },
+    ),
+    (b"01\n\n", 2, StimError::Width { line: 2 }),
+    (b"1\r\n", 1, StimError::Width { line: 1 }),
+];
+
 #[test]
 fn stimulus_faults(rt: HostRuntime) {
-    let character = |line, column| StimError::Character { line, column };
-    for (row, (text, width, fault)) in [
-        (b"1\n2\n".as_slice(), 1, character(2, 1)),
-        (b"1\n01\n", 1, StimError::Width { line: 2 }),
-        (b"01\n1x\n\n", 2, character(2, 2)),
-        (b"01\n\n", 2, StimError::Width { line: 2 }),
-        (b"1\r\n", 1, StimError::Width { line: 1 }),
-    ]
-    .iter()
-    .enumerate()
-    {
+    for (row, (text, width, fault)) in FAULTS.iter().enumerate() {
         let refused = read_stimulus(rt.alloc(), text, *width).err();
-        assert!(rt; refused == Some(*fault), "row {row}");
+        assert_at(&rt, refused == Some(*fault), row);
     }
 }
+
+// Whether it has so many rows of this width, and prints as this.
+fn reads_as(
+    rt: &impl Abort,
+    alloc: Global,
+    text: &[u8],
+    sizes: (usize, usize),
+    printed: &[u8],
+) -> bool {
+    let (width, count) = sizes;
+    let rows = rows(rt, alloc, text, width);
+    width_of(text) == width && rows.count == count && are_rows(alloc, &rows, printed)
+}
+
+// Texts, the width and the number of their rows, and the texts that these print as.
+const LINES: &[(&[u8], (usize, usize), &[u8])] = &[
+    (b"", (0, 0), b""),
+    (b"\n\n\n", (0, 3), b"\n\n\n"),
+    (b"10\n01", (2, 2), b"10\n01\n"),
+    (b"101\n", (3, 1), b"101\n"),
+];
 
 #[test]
 fn lines_are_rows(rt: HostRuntime) {
     let alloc = rt.alloc();
-    for (row, (text, width, count, printed)) in [
-        (b"".as_slice(), 0, 0, b"".as_slice()),
-        (b"\n\n\n", 0, 3, b"\n\n\n"),
-        (b"10\n01", 2, 2, b"10\n01\n"),
-        (b"101\n", 3, 1, b"101\n"),
-    ]
-    .iter()
-    .enumerate()
-    {
-        let rows = rows(&rt, alloc, text, *width);
-        assert!(rt;
-            width_of(text) == *width && rows.count == *count,
-            "row {row}"
-        );
-        assert!(rt; are_rows(alloc, &rows, printed), "row {row}");
+    for (row, (text, sizes, printed)) in LINES.iter().enumerate() {
+        assert_at(&rt, reads_as(&rt, alloc, text, *sizes, printed), row);
     }
-    let first = rows(&rt, alloc, b"10\n01", 2);
-    assert!(rt; first.bits.as_slice() == [true, false, false, true].as_slice());
+}
+
+#[test]
+fn bits_stand_row_by_row(rt: HostRuntime) {
+    let rows = rows(&rt, rt.alloc(), b"10\n01", 2);
+    assert!(rt; rows.bits.as_slice() == [true, false, false, true].as_slice());
 }
 
 #[test]
