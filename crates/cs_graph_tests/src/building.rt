@@ -1,8 +1,19 @@
-// Builders that are filled by rows of tables.
+// Builders that are filled by rows of tables, and values that are kept.
 use cs_base::{Sequence, VertexId};
 use cs_graph::{BuildError, Machine, MachineBuilder, VertexKind};
 use std::alloc::Global;
 use std::process::Abort;
+
+/// A value that is never freed: a test ends with its process.
+pub fn keep<'a, T: Drop + 'a>(rt: &impl Abort, alloc: Global, value: T) -> &'a T {
+    let kept: Result<_, _> = Box::new(alloc, value);
+    Box::leak(kept.expect(rt, "memory"))
+}
+
+/// Asserts what a row of a table says.
+pub fn assert_row(rt: &impl Abort, holds: bool, row: usize) {
+    assert!(rt; holds, "row {row}");
+}
 
 /// A vertex and the number of its pin, the vertex whose output 0 feeds it, and the contents of the registers
 /// between them.
@@ -43,8 +54,8 @@ fn with_vertices(rt: &impl Abort, alloc: Global, kinds: &[VertexKind]) -> Machin
     builder
 }
 
-/// The machine of these vertices, behind the Host, and wires.
-pub fn machine(
+/// What comes of these vertices, behind the Host, and wires.
+pub fn built(
     rt: &impl Abort,
     alloc: Global,
     kinds: &[VertexKind],
@@ -55,4 +66,15 @@ pub fn machine(
         feed(rt, alloc, &mut builder, *wire).expect(rt, "a wire");
     }
     builder.finish(alloc)
+}
+
+/// The machine of these vertices, behind the Host, and wires.
+pub fn machine(
+    rt: &impl Abort,
+    alloc: Global,
+    kinds: &[VertexKind],
+    wires: &[Wire<'_>],
+) -> &'static Machine {
+    let machine = built(rt, alloc, kinds, wires).expect(rt, "a machine");
+    keep(rt, alloc, machine)
 }

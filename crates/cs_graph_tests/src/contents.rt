@@ -1,10 +1,10 @@
 // Machines with other contents on the same edges.
-use crate::building::{Wire, machine};
+use crate::building::{Wire, assert_row, keep, machine};
 use crate::limits::is_limit;
 use crate::machines::{
-    inverter_loop, is_edge, is_memory_of_four_words, is_write_of_six_pins, memory_with_two_ports,
+    assert_edges, has_memory_and_write, inverter_loop, is_edge, memory_with_two_ports,
 };
-use cs_base::{Counted, MemId, Sequence, VertexId};
+use cs_base::{Counted, Sequence};
 use cs_cells::Kind;
 use cs_graph::{BuildError, Contents, Machine, VertexKind};
 use std::alloc::Global;
@@ -24,52 +24,61 @@ fn with_contents(
     rt: &impl Abort,
     alloc: Global,
     machine: &Machine,
-    contents: Contents,
+    lists: &[&[bool]],
 ) -> Result<Machine, BuildError> {
+    let contents = contents_of(rt, alloc, lists);
     assert!(rt; machine.fits(&contents));
     machine.with_contents(alloc, contents)
 }
 
-// The edges of the inverter loop with other contents; two have no register.
-const WIRES: [Wire<'static>; 5] = [
-    (2, 0, 4, &[true, false]),
+fn made(rt: &impl Abort, alloc: Global, machine: &Machine, lists: &[&[bool]]) -> &'static Machine {
+    let made = with_contents(rt, alloc, machine, lists).expect(rt, "a machine");
+    keep(rt, alloc, made)
+}
+
+const FIRST: &[bool] = &[true, false];
+
+const FOURTH: &[bool] = &[true];
+
+const FIFTH: &[bool] = &[false, true, true];
+
+// Other contents for the inverter loop, two of whose edges have no register.
+const OTHERS: &[&[bool]] = &[FIRST, &[], &[], FOURTH, FIFTH];
+
+// Its edges with these.
+const WIRES: &[Wire<'static>] = &[
+    (2, 0, 4, FIRST),
     (3, 0, 5, &[]),
     (4, 0, 3, &[]),
-    (5, 0, 1, &[true]),
-    (5, 1, 4, &[false, true, true]),
+    (5, 0, 1, FOURTH),
+    (5, 1, 4, FIFTH),
 ];
 
 #[test]
 fn other_contents_on_the_same_edges(rt: HostRuntime) {
-    let alloc = rt.alloc();
-    let machine = inverter_loop(&rt, alloc);
-    let [y, n1, n2, a, x] = WIRES;
-    let contents = contents_of(&rt, alloc, &[y.3, n1.3, n2.3, a.3, x.3]);
-    let made = with_contents(&rt, alloc, &machine, contents).expect(&rt, "a machine");
-    assert!(rt; made.vertex_count() == 6 && made.edge_count() == 5);
-    for (e, wire) in WIRES.iter().enumerate() {
-        assert!(rt; is_edge(&made, e as u32, *wire), "edge {e}");
-    }
-    assert!(rt; made.order() == machine.order());
+    let machine = inverter_loop(&rt, rt.alloc());
+    let made = made(&rt, rt.alloc(), machine, OTHERS);
+    assert!(rt; made.vertex_count() == 6 && made.order() == machine.order());
+    assert_edges(&rt, made, WIRES);
 }
+
+fn fits(rt: &impl Abort, alloc: Global, machine: &Machine, lists: &[&[bool]]) -> bool {
+    machine.fits(&contents_of(rt, alloc, lists))
+}
+
+// Contents, edge by edge, and whether they fit those of the inverter loop.
+const CONTENTS: &[(&[&[bool]], bool)] = &[
+    (&[&[true], &[], &[], &[true], &[true]], true),
+    (&[&[true], &[true], &[], &[true], &[true]], false),
+    (&[&[true], &[], &[], &[true], &[]], false),
+    (&[&[true], &[], &[], &[true]], false),
+];
 
 #[test]
 fn contents_fit_edges(rt: HostRuntime) {
-    let alloc = rt.alloc();
-    let machine = inverter_loop(&rt, alloc);
-    let one = [true].as_slice();
-    let none = [].as_slice();
-    for (row, (lists, fits)) in [
-        ([one, none, none, one, one].as_slice(), true),
-        ([one, one, none, one, one].as_slice(), false),
-        ([one, none, none, one, none].as_slice(), false),
-        ([one, none, none, one].as_slice(), false),
-    ]
-    .iter()
-    .enumerate()
-    {
-        let contents = contents_of(&rt, alloc, lists);
-        assert!(rt; machine.fits(&contents) == *fits, "row {row}");
+    let machine = inverter_loop(&rt, rt.alloc());
+    for (row, (lists, wanted)) in CONTENTS.iter().enumerate() {
+        assert_row(&rt, fits(&rt, rt.alloc(), machine, lists) == *wanted, row);
     }
 }
 
@@ -77,23 +86,19 @@ fn contents_fit_edges(rt: HostRuntime) {
 fn limit_of_other_contents(rt: HostRuntime) {
     let alloc = rt.alloc();
     let not = [VertexKind::Gate(Kind::Not)];
-    let machine = machine(&rt, alloc, &not, &[(1, 0, 1, &[false])]).expect(&rt, "a machine");
+    let machine = machine(&rt, alloc, &not, &[(1, 0, 1, &[false])]);
     let bits = vec![in alloc; true; 65_537].expect(&rt, "bits");
-    let contents = contents_of(&rt, alloc, &[bits.as_slice()]);
-    let refused = with_contents(&rt, alloc, &machine, contents).err();
-    assert!(rt; is_limit(&refused, Counted::Weight, 65_537, 65_536));
-    let contents = contents_of(&rt, alloc, &[&bits[1..]]);
-    let made = with_contents(&rt, alloc, &machine, contents).expect(&rt, "a machine");
-    assert!(rt; is_edge(&made, 0, (1, 0, 1, &bits[1..])));
+    let bits = bits.as_slice();
+    let refused = with_contents(&rt, alloc, machine, &[bits]).err();
+    let refused = keep(&rt, alloc, refused);
+    assert!(rt; is_limit(refused, Counted::Weight, 65_537, 65_536));
+    let made = made(&rt, alloc, machine, &[&bits[1..]]);
+    assert!(rt; is_edge(made, 0, (1, 0, 1, &bits[1..])));
 }
 
 #[test]
 fn other_contents_beside_a_memory(rt: HostRuntime) {
     let alloc = rt.alloc();
     let machine = memory_with_two_ports(&rt, alloc);
-    let contents = contents_of(&rt, alloc, &[&[]]);
-    let made = with_contents(&rt, alloc, &machine, contents).expect(&rt, "a machine");
-    assert!(rt; made.vertex_count() == 3 && made.memory_count() == 1);
-    assert!(rt; is_memory_of_four_words(made.memory(MemId::new(0))));
-    assert!(rt; is_write_of_six_pins(made.vertex(VertexId::new(2))));
+    assert!(rt; has_memory_and_write(made(&rt, alloc, machine, &[&[]])));
 }

@@ -1,5 +1,5 @@
 // What is one too many for a machine.
-use crate::building::{add, feed};
+use crate::building::{add, feed, keep};
 use cs_base::{Counted, LimitFault};
 use cs_cells::Kind;
 use cs_graph::{BuildError, MachineBuilder, VertexKind};
@@ -20,7 +20,7 @@ fn one_vertex_too_many(rt: HostRuntime) {
     }
     builder.keeps();
     let refused = builder.add_vertex(alloc, VertexKind::Input).err();
-    assert!(rt; is_limit(&refused, Counted::Vertices, 4_097, 4_096));
+    assert!(rt; is_limit(keep(&rt, alloc, refused), Counted::Vertices, 4_097, 4_096));
 }
 
 // Multiplexers of 20 pins each, from vertex 2 on, which the input 1 feeds.
@@ -37,7 +37,7 @@ fn one_edge_too_many(rt: HostRuntime) {
         feed(&rt, alloc, &mut builder, wire).expect(&rt, "an edge");
     }
     let refused = feed(&rt, alloc, &mut builder, (1_640, 8, 1, &[])).err();
-    assert!(rt; is_limit(&refused, Counted::Edges, 32_769, 32_768));
+    assert!(rt; is_limit(keep(&rt, alloc, refused), Counted::Edges, 32_769, 32_768));
 }
 
 #[test]
@@ -47,7 +47,7 @@ fn one_register_too_many(rt: HostRuntime) {
     add(&rt, alloc, &mut builder, VertexKind::Gate(Kind::Not));
     let contents = vec![in alloc; false; 65_537].expect(&rt, "contents");
     let refused = feed(&rt, alloc, &mut builder, (1, 0, 1, contents.as_slice())).err();
-    assert!(rt; is_limit(&refused, Counted::Weight, 65_537, 65_536));
+    assert!(rt; is_limit(keep(&rt, alloc, refused), Counted::Weight, 65_537, 65_536));
     feed(&rt, alloc, &mut builder, (1, 0, 1, &contents[1..])).expect(&rt, "an edge");
-    let _ = builder.finish(alloc).expect(&rt, "a machine");
+    keep(&rt, alloc, builder.finish(alloc).expect(&rt, "a machine"));
 }
