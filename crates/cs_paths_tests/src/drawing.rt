@@ -1,5 +1,5 @@
 // Machines that are drawn from a seed.
-use crate::building::{add, feed};
+use crate::building::{add, feed, keep};
 use cs_cells::Kind;
 use cs_graph::{Machine, MachineBuilder, VertexKind};
 use std::alloc::Global;
@@ -61,7 +61,7 @@ fn feed_pin(
 }
 
 /// An input 1, an output 2 and so many gates behind them.
-pub fn drawn(rt: &impl Abort, alloc: Global, seed: u32, gates: u32) -> Machine {
+pub fn drawn(rt: &impl Abort, alloc: Global, seed: u32, gates: u32) -> &'static Machine {
     assert!(rt; gates < 1000);
     let mut draws = Draws::new(seed);
     let mut builder = MachineBuilder::new(alloc).expect(rt, "a builder");
@@ -84,5 +84,5 @@ pub fn drawn(rt: &impl Abort, alloc: Global, seed: u32, gates: u32) -> Machine {
             );
         }
     }
-    builder.finish(alloc).expect(rt, "a machine")
+    keep(rt, alloc, builder.finish(alloc).expect(rt, "a machine"))
 }

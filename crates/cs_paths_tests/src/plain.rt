@@ -2,12 +2,11 @@
 ghost use Rattle.cs_graph.specs.Period.{AreDelaysOf};
 ghost use Rattle.cs_paths.specs.Rows.{AreRowsOf};
 
-use crate::building::delays;
+use crate::building::{delays, keep, rows_of};
 use crate::drawing::drawn;
 use cs_base::{EdgeId, VertexId};
 use cs_graph::{Delays, Machine};
 use cs_paths::types::Rows;
-use cs_paths::{NoGate, rows};
 use std::alloc::Global;
 use std::process::Abort;
 use std::thread::Threads;
@@ -158,20 +157,22 @@ fn is_pair(
 const TABLE: &str =
     r#"{"version":2,"delays":{"$_NOT_":2,"$_XOR_":{"A":5,"B":1},"$_MUX_":{"A":3,"B":7,"S":4}},"default":6}"#;
 
+fn assert_pair(rt: &impl Abort, holds: bool, seed: u32, u: u32, v: u32) {
+    assert!(rt; holds, "seed {seed}, {u} to {v}");
+}
+
 // Every pair of the machine of a seed.
 fn check<R: Threads + Sync + Abort>(rt: &R, alloc: Global, seed: u32) {
     let machine = drawn(rt, alloc, seed, 40);
-    let delays = delays(rt, alloc, &machine, TABLE);
-    let rows = rows(rt, alloc, &machine, &delays, &NoGate).expect(rt, "rows");
-    let table = plain_table(rt, alloc, &machine, &delays);
+    let delays = delays(rt, alloc, machine, TABLE);
+    let rows = rows_of(rt, alloc, machine, delays);
+    let table = keep(rt, alloc, plain_table(rt, alloc, machine, delays));
     for u in 0..machine.vertex_count() {
         for v in 0..machine.vertex_count() {
             let ends = (VertexId::new(u), VertexId::new(v));
             let wanted = table.at(u as usize, v as usize);
-            assert!(rt;
-                is_pair(rt, alloc, &machine, &delays, &rows, ends, wanted),
-                "seed {seed}, {u} to {v}"
-            );
+            let holds = is_pair(rt, alloc, machine, delays, rows, ends, wanted);
+            assert_pair(rt, holds, seed, u, v);
         }
     }
 }
