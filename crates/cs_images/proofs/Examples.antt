@@ -3,7 +3,8 @@ use Rattle.std.proofs.Common.{◌≡◌, ℕ, List, [], ◌∷◌, true, false, 
 use Rattle.serde_json.specs.Data.{Data, Items, item, member, no_items, no_members, number, object, array, string, unsigned}
 use Rattle.cs_cells.specs.Memories.{Words}
 use Rattle.cs_json.specs.declared.document.Datum.TheVariants.{Digits}
-use Rattle.cs_net.specs.Contexts.{Image, image_words}
+use Rattle.cs_net.specs.Contexts.{Image}
+use Rattle.cs_modules.specs.Words.{image_words}
 use Rattle.cs_images.specs.declared.named.NamedImages.{NamedImages}
 use Rattle.cs_images.specs.Images.{image_bits, images_of}
 use Rattle.cs_images.specs.Names.{first_faulty}

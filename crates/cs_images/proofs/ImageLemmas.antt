@@ -1,8 +1,9 @@
 -- The images that a file gives are those of the netlist.
 use Rattle.std.proofs.Common.{◌≡◌, ℕ, zero, suc, ◌+◌, ◌<◌, List, [], ◌∷◌, length, get_or, drop, map, Bool, true, false, not, ◌||◌, ◌==◌, bytes_eq, Option, Some, None, Ok, Err, option_map, refl, sym, ap, subst, ◌∙◌, arith}
-use Rattle.std.specs.Prelude.{find, if◌then◌else◌}
+use Rattle.std.specs.Prelude.{find, flat_map, if◌then◌else◌}
 use Rattle.std.proofs.lemmas.List.{drop_more}
-use Rattle.std.proofs.lemmas.List.Sums.{sum_by-cons}
+use Rattle.std.proofs.lemmas.List.Concat.{length-flat_map}
+use Rattle.std.proofs.lemmas.List.Sums.{sum-map}
 use Rattle.std.specs.List.{AllByRecursion, zip}
 use Rattle.serde_json.specs.Data.{Data}
 use Rattle.cs_json.specs.Walk.{Read}
@@ -32,31 +33,9 @@ length-counts from (suc count) = ap suc (length-counts (from + 1) count)
 pub length-counted : {A : Type 0} (f : ℕ → A) (from count : ℕ) → length (map f (count_from from count)) ≡ count
 length-counted f from count = length-map f (count_from from count) ∙ length-counts from count
 
--- the bits of one word more
-pub one_word_more : (words : Words) (i : ℕ) (word : List Bool) (digits : List ℕ) (old new : List Bool) (count : ℕ)
-    → i < length words → word ≡ get_or words i word → count ≡ length word
-    → length old + bit_count (drop i words) ≡ bit_count words
-    → new ≡ map (is_one digits) (count_from 0 (length old + count))
-    → (new ≡ map (is_one digits) (count_from 0 (length new)))
-    × (length new + bit_count (drop (i + 1) words) ≡ bit_count words)
-one_word_more words i word digits old new count below at wide missing made = (
-  made ∙ ap (λ n. map (is_one digits) (count_from 0 n)) (sym long),
-  counted (length new) (length old) count (length word) (bit_count (drop (i + 1) words)) (bit_count (drop i words))
-      (bit_count words) long wide left missing,
-)
-  where
-    long : length new ≡ length old + count
-    long = ap length made ∙ length-counted (is_one digits) 0 (length old + count)
-
-    left : bit_count (drop i words) ≡ length word + bit_count (drop (i + 1) words)
-    left =
-        ap bit_count (drop_more words i word below)
-        ∙ ap (λ w. bit_count (w ∷ drop (i + 1) words)) (sym at)
-        ∙ sum_by-cons (λ n. n) (length word) (map length (drop (i + 1) words))
-
-    counted : (new old count width rest here whole : ℕ) → new ≡ old + count → count ≡ width → here ≡ width + rest
-        → old + here ≡ whole → new + rest ≡ whole
-    counted new old count width rest here whole is same split sum = omega arith
+-- so many bits as all words together have
+pub as_many_bits : (words : Words) → length (flat_map (λ word. word) words) ≡ bit_count words
+as_many_bits words = length-flat_map (λ word. word) words ∙ sym (sum-map length words)
 
 -- an image has as many bits as the words
 all_images_of : (words : Words) (texts : List Datum) → AllByRecursion (IsImageOf words) (map (image_bits words) texts)

@@ -8,7 +8,7 @@ use Rattle.cs_json.specs.declared.document.Datum.{Datum}
 use Rattle.cs_cells.specs.Memories.{Words}
 use Rattle.cs_modules.specs.Digits.{digits_of, is_one}
 use Rattle.cs_modules.specs.Pins.{count_from}
-use Rattle.cs_net.specs.Contexts.{image_words}
+use Rattle.cs_modules.specs.Words.{image_words}
 use Rattle.cs_images.specs.Images.{bit_count, image_bits, words_of_digits}
 
 -- ---- parts of numbers that are counted up

@@ -34,7 +34,7 @@ fn images_of(
     let Some(found) = named_as(names, named, memory.name.as_str()) else {
         return Ok(None);
     };
-    let images = images(alloc, memory.words.as_slice(), found.texts.as_slice())?;
+    let images = images(alloc, &memory.words, found.texts.as_slice())?;
     Ok(Some(images))
 }
 

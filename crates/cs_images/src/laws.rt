@@ -8,7 +8,7 @@ ghost use Rattle.cs_cells.specs.Memories.{Words, word_count};
 ghost use Rattle.cs_modules.specs.Digits.{digits_of};
 ghost use Rattle.cs_modules.specs.Memories.{first_words};
 ghost use Rattle.cs_modules.specs.Pins.{parameter};
-ghost use Rattle.cs_net.specs.Contexts.{image_words};
+ghost use Rattle.cs_modules.specs.Words.{image_words};
 ghost use Rattle.cs_images.specs.Images.{image_bits, words_of_digits};
 
 /// An image of words of one width is cut into the words that its text's digits give, as those of INIT give the words

@@ -20,7 +20,8 @@ use Rattle.cs_lower.proofs.DraftMemories.{words_in_row}
 use Rattle.cs_modules.specs.Memories.{shapes_in}
 use Rattle.cs_net.specs.declared.images.Images.{Images}
 use Rattle.cs_net.specs.declared.state.MemoryWords.{MemoryWords}
-use Rattle.cs_net.specs.Contexts.{AreImagesFor, AreImagesOf, Image, IsImageOf, image_words, of_context, with_image, with_images}
+use Rattle.cs_modules.specs.Words.{image_words}
+use Rattle.cs_net.specs.Contexts.{AreImagesFor, AreImagesOf, Image, IsImageOf, of_context, with_image, with_images}
 use Rattle.cs_net.specs.Drivers.{driver_of}
 use Rattle.cs_net.specs.Invariant.{IsWellFormed}
 use Rattle.cs_net.specs.Netlist.{Net}

@@ -9,31 +9,21 @@ ghost use Rattle.cs_modules.specs.Memories.{shapes_in};
 use cs_base::Sequence;
 use cs_cells::MemShape;
 use cs_graph::Memory;
+use cs_modules::Words;
 use cs_net::MemoryWords;
 use std::alloc::{AllocError, Global};
-
-// The bits of all words, in order.
-fn bits_of(alloc: Global, words: &[Sequence<bool>]) -> Result<Vec<bool>, AllocError>
-    ensures { IfOk result (λ bits. bits.items ≡ flat_map (λ w. w) words.now) }
-{
-    let mut bits = Vec::new(alloc);
-    for word in words {
-        bits.extend_from_slice(word.as_slice())?;
-    }
-    Ok(bits)
-}
 
 // The bits of these words, and 0 in as many more as there are addresses.
 fn filled(
     alloc: Global,
     count: usize,
     width: usize,
-    words: &[Sequence<bool>],
+    words: &Words,
 ) -> Result<Sequence<bool>, AllocError>
     requires { count * width ≤ 4194304 }
     ensures { IfOk result (λ bits. bits ≡ filled count width words.now) }
 {
-    let mut bits = bits_of(alloc, words)?;
+    let mut bits = Vec::from_slice(alloc, words.bits())?;
     let more = count.saturating_sub(words.len()) * width;
     bits.resize(bits.len() + more, false)?;
     Ok(Sequence::from_vec(bits))
@@ -45,12 +35,7 @@ fn memory_of(alloc: Global, words: &MemoryWords, shape: &MemShape) -> Result<Mem
     ensures { IfOk result (λ memory. memory ≡ memory_of (words.now, shape.now)) }
 {
     let count = 1u32 << shape.abits;
-    let start = filled(
-        alloc,
-        count as usize,
-        shape.width as usize,
-        words.words.as_slice(),
-    )?;
+    let start = filled(alloc, count as usize, shape.width as usize, &words.words)?;
     Ok(Memory {
         size: shape.size,
         words: count,

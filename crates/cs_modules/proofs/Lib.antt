@@ -8,3 +8,4 @@ pub mod GatePins
 pub mod WidthLemmas
 pub mod Pushed
 pub mod MadeLists
+pub mod WordLists

@@ -5,3 +5,4 @@ pub mod Modules
 pub mod PinBits
 pub mod Places
 pub mod Memories
+pub mod Words

@@ -13,6 +13,7 @@ mod places;
 mod signals;
 mod starts;
 mod top;
+mod words;
 
 pub use classes::{class_at, is_memory, is_register, is_scope};
 pub use clocks::{Clock, ClockBit, clock_bits, clock_by_pins, clock_of};
@@ -25,3 +26,4 @@ pub use places::{Places, note};
 pub use signals::{holds_bit, is_bit, is_input, is_output, number_in, number_set, numbers_in};
 pub use starts::first_values;
 pub use top::top_module;
+pub use words::Words;

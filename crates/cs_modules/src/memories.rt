@@ -8,6 +8,7 @@ ghost use Rattle.cs_modules.specs.Digits.{is_one};
 use crate::classes::is_memory;
 use crate::digits::is_one;
 use crate::pins::{number_at, parameter};
+use crate::words::Words;
 use cs_base::Sequence;
 use cs_cells::{MemShape, ReadShape};
 use cs_json::CellDecl;
@@ -114,25 +115,21 @@ pub fn shape(alloc: Global, cell: &CellDecl) -> Result<Option<MemShape>, AllocEr
 }
 
 // So many words of some digits.
-fn words_of(
-    alloc: Global,
-    digits: &[u8],
-    width: u32,
-    count: u32,
-) -> Result<Sequence<Sequence<bool>>, AllocError>
+fn words_of(alloc: Global, digits: &[u8], width: u32, count: u32) -> Result<Words, AllocError>
     ensures { IfOk result (λ words. words
         ≡ map (λ i. map (λ j. is_one digits.now (i * width + j)) (count_from 0 width)) (count_from 0 count)) }
 {
-    let mut words = Sequence::new(alloc);
-    for i in 0..count {
-        words.push(digits_part(alloc, digits, width, i)?)?;
+    let total = u64::from(count) * u64::from(width);
+    let mut bits = Vec::with_capacity(alloc, total as usize)?;
+    for i in 0..total {
+        bits.push(is_one(digits, i as usize))?;
     }
-    Ok(words)
+    Ok(Words::new(bits, width as usize, count as usize))
 }
 
 /// The words that a memory starts with, as its INIT says, each least significant bit first. It errs only where memory runs
 /// out.
-pub fn first_words(alloc: Global, cell: &CellDecl) -> Result<Sequence<Sequence<bool>>, AllocError>
+pub fn first_words(alloc: Global, cell: &CellDecl) -> Result<Words, AllocError>
     requires sizes { list_all (is_size cell.now) memory_sizes ≡ true }
     requires narrow { number_at cell.now (codes "ABITS") ≤ 20 }
     ensures { IfOk result (λ words. words ≡ first_words cell.now (memory_shape cell.now)) }

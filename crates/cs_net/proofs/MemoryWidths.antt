@@ -1,5 +1,5 @@
 -- How many words each memory of a netlist starts with and how wide they are, and that its images can be cut into such.
-use Rattle.std.proofs.Common.{◌≡◌, ◌∙◌, ℕ, zero, suc, ◌+◌, ◌-◌, ◌*◌, ◌<◌, ◌≤◌, List, [], ◌∷◌, Option, Some, None, ap, ap₂, arith, codes, drop, filter_map, length, map, replicate, refl, subst, sym, take}
+use Rattle.std.proofs.Common.{◌≡◌, ◌∙◌, ℕ, zero, suc, ◌+◌, ◌-◌, ◌*◌, ◌<◌, ◌≤◌, List, [], ◌∷◌, Option, Some, None, ap, ap₂, arith, codes, drop, filter_map, get_or, length, map, replicate, refl, subst, sym, take}
 use Rattle.std.specs.Prelude.{slice_get, slice_index_or, slice_range}
 use Rattle.std.specs.List.{AllByRecursion, cons_option, enumerate_from, sum_by, zip}
 use Rattle.std.proofs.lemmas.List.{length-drop, length-map, length-take-le}
@@ -15,7 +15,8 @@ use Rattle.cs_modules.specs.Pins.{class_at, count_from}
 use Rattle.cs_net.specs.declared.images.Images.{Images}
 use Rattle.cs_net.specs.declared.state.MemoryWords.{MemoryWords}
 use Rattle.cs_net.specs.Build.{net_of, words_by}
-use Rattle.cs_net.specs.Contexts.{AreImagesFor, AreImagesOf, Image, IsImageOf, image_words, no_images, with_image, with_images}
+use Rattle.cs_modules.specs.Words.{image_words}
+use Rattle.cs_net.specs.Contexts.{AreImagesFor, AreImagesOf, Image, IsImageOf, no_images, with_image, with_images}
 use Rattle.cs_net.specs.Invariant.{AreAlike, IsWellFormed, size_of}
 use Rattle.cs_net.specs.Netlist.{Net}
 use Rattle.cs_net.proofs.PinWidths.{length-count_from}
@@ -142,6 +143,17 @@ image_at : (words : Words) (k : ℕ) (images : List Image) → k < length images
 image_at words k [] below all = absurd (omega arith)
 image_at words zero (image ∷ images) below all = all.0
 image_at words (suc k) (image ∷ images) below all = image_at words k images (omega arith) all.1
+
+-- what holds of all memories with their entries holds of those at a place
+pub entry_at : (c : ℕ) (ms : List MemoryWords) (entries : List (Option (List Image))) (i : ℕ) (m : MemoryWords)
+    (entry : Option (List Image)) → i < length ms → length entries ≡ length ms → m ≡ get_or ms i m
+    → entry ≡ get_or entries i entry → AllByRecursion (λ e. AreImagesOf c e.0 e.1) (zip ms entries) → AreImagesOf c m entry
+entry_at c [] entries i m entry below same is_m is_e all = absurd (omega arith)
+entry_at c (x ∷ ms) [] i m entry below same is_m is_e all = absurd (omega arith)
+entry_at c (x ∷ ms) (y ∷ entries) zero m entry below same is_m is_e all =
+    subst (λ (a : MemoryWords). AreImagesOf c a entry) (sym is_m) (subst (λ b. AreImagesOf c x b) (sym is_e) all.0)
+entry_at c (x ∷ ms) (y ∷ entries) (suc i) m entry below same is_m is_e all =
+    entry_at c ms entries i m entry (omega arith) (omega arith) is_m is_e all.1
 
 entry_wide : (k c : ℕ) (m : MemoryWords) (shape : MemShape) → map length m.words ≡ widths_of shape → k < c
     → (entry : Option (List Image)) → AreImagesOf c m entry → size_of m ≡ size_of (with_image k m entry)

@@ -1,7 +1,8 @@
 -- The starts of contexts: each memory cell that the images name starts with the context's image.
-use Rattle.std.specs.Prelude.{◌≡◌, ℕ, ◌+◌, ◌*◌, List, [], ◌∷◌, Bool, Option, Some, None, map, slice_range, slice_index_or, length, sum, ⊤}
-use Rattle.std.specs.List.{AllByRecursion, enumerate_from, zip}
+use Rattle.std.specs.Prelude.{◌≡◌, ℕ, List, [], ◌∷◌, Bool, Option, Some, None, map, slice_index_or, length, sum, ⊤}
+use Rattle.std.specs.List.{AllByRecursion, zip}
 use Rattle.cs_cells.specs.Memories.{Words}
+use Rattle.cs_modules.specs.Words.{image_words}
 use Rattle.cs_net.specs.declared.images.Images.{Images}
 use Rattle.cs_net.specs.declared.state.MemoryWords.{MemoryWords}
 use Rattle.cs_net.specs.declared.state.Snapshot.{Snapshot}
@@ -25,11 +26,6 @@ AreImagesOf c memory (Some images) = (length images ≡ c) × AllByRecursion (Is
 pub record AreImagesFor (net : Net) (c : ℕ) (images : Images) : Type 0 where
   pub count : length images.of ≡ length net.memories
   pub each : AllByRecursion (λ e. AreImagesOf c e.0 e.1) (zip net.memories images.of)
-
--- an image cut into words as these are: word i has the bits from i times its width on
-abbrev pub image_words : Words → Image → Words
-image_words words image =
-    map (λ e. slice_range image (e.0 * length e.1) (e.0 * length e.1 + length e.1)) (enumerate_from 0 words)
 
 -- a memory with its image k, where the images name it
 abbrev pub with_image : ℕ → MemoryWords → Option (List Image) → MemoryWords

@@ -127,17 +127,3 @@ fn copy_read(alloc: Global, read: &ReadShape) -> Result<ReadShape, AllocError>
         start: copied(alloc, read.start.as_slice())?,
     })
 }
-
-/// Other words of the same bits.
-pub(crate) fn copy_words(
-    alloc: Global,
-    words: &[Sequence<bool>],
-) -> Result<Sequence<Sequence<bool>>, AllocError>
-    ensures { IfOk result (λ copies. copies ≡ words.now) }
-{
-    let mut copies = Sequence::new(alloc);
-    for word in words {
-        copies.push(copied(alloc, word.as_slice())?)?;
-    }
-    Ok(copies)
-}

@@ -1,15 +1,17 @@
 // Starts of memories, one for each context.
-ghost use Rattle.std.specs.Prelude.{◌≡◌, ◌+◌, ◌*◌, ◌<◌, ℕ, [], IfOk, length, slice_index_or, slice_range};
-ghost use Rattle.cs_net.specs.Contexts.{AreImagesFor, context_start, image_words, no_images, of_context, with_image, with_images};
+ghost use Rattle.std.specs.Prelude.{◌≡◌, ◌<◌, ℕ, [], IfOk, length, slice_index_or};
+ghost use Rattle.std.specs.List.{AllByRecursion, zip};
+ghost use Rattle.cs_net.specs.Contexts.{AreImagesFor, AreImagesOf, context_start, no_images, of_context, with_image, with_images};
 ghost use Rattle.cs_net.specs.Drivers.{own_start};
 ghost use Rattle.cs_net.specs.Invariant.{AreAlike};
 
-use crate::copies::{copied, copy_cells, copy_ports, copy_shapes, copy_words};
+use crate::copies::{copied, copy_cells, copy_ports, copy_shapes};
 use crate::initial_values::value_map;
 use crate::memories::memory_places;
 use crate::netlist::Netlist;
 use crate::state::MemoryWords;
 use cs_base::Sequence;
+use cs_modules::Words;
 use std::alloc::{AllocError, Global};
 
 /// One entry for each memory cell in order: None where it starts alike in every context, else one image for each
@@ -43,43 +45,21 @@ fn image_of(images: &[Sequence<bool>], k: u32) -> &[bool]
     }
 }
 
-// Word i of an image whose words are so wide.
-fn word_of(image: &[bool], i: usize, width: usize) -> &[bool]
-    ensures { result.now ≡ slice_range image.now (i * width) (i * width + width) }
-{
-    let start = i.saturating_mul(width).min(image.len());
-    let end = start.saturating_add(width).min(image.len());
-    &image[start..end]
-}
-
-// An image cut into words as these are.
-fn image_words(
-    alloc: Global,
-    words: &[Sequence<bool>],
-    image: &[bool],
-) -> Result<Sequence<Sequence<bool>>, AllocError>
-    ensures { IfOk result (λ cut. cut ≡ image_words words.now image.now) }
-{
-    let mut cut = Sequence::new(alloc);
-    for (i, word) in words.iter().enumerate() {
-        cut.push(copied(alloc, word_of(image, i, word.len()))?)?;
-    }
-    Ok(cut)
-}
-
 // The words of a memory in context k, where this is its entry among the images.
 fn words_in(
     alloc: Global,
     memory: &MemoryWords,
     entry: &Option<Sequence<Sequence<bool>>>,
     k: u32,
-) -> Result<Sequence<Sequence<bool>>, AllocError>
+) -> Result<Words, AllocError>
+    requires { (c : ℕ) × AreImagesOf c memory.now entry.now × (k < c) }
     ensures { IfOk result (λ words. words ≡ (with_image k memory.now entry.now).words) }
 {
-    let words = memory.words.as_slice();
     match entry {
-        Some(images) => image_words(alloc, words, image_of(images.as_slice(), k)),
-        None => copy_words(alloc, words),
+        Some(images) => memory
+            .words
+            .with_bits(alloc, image_of(images.as_slice(), k)),
+        None => memory.words.copy(alloc),
     }
 }
 
@@ -90,6 +70,7 @@ fn with_image(
     entry: &Option<Sequence<Sequence<bool>>>,
     k: u32,
 ) -> Result<MemoryWords, AllocError>
+    requires { (c : ℕ) × AreImagesOf c memory.now entry.now × (k < c) }
     ensures { IfOk result (λ other. other ≡ with_image k memory.now entry.now) }
 {
     let words = words_in(alloc, memory, entry, k)?;
@@ -106,7 +87,8 @@ fn with_images(
     entries: &[Option<Sequence<Sequence<bool>>>],
     k: u32,
 ) -> Result<Sequence<MemoryWords>, AllocError>
-    requires { length entries.now ≡ length memories.now }
+    requires count { length entries.now ≡ length memories.now }
+    requires images { (c : ℕ) × AllByRecursion (λ e. AreImagesOf c e.0 e.1) (zip memories.now entries.now) × (k < c) }
     ensures { IfOk result (λ others. others ≡ with_images k memories.now entries.now) }
 {
     let mut others = Sequence::new(alloc);

@@ -290,8 +290,5 @@ fn place_at(places: &[usize], i: usize) -> usize
 fn word_bit(memory: &MemoryWords, word: usize, bit: usize) -> bool
     ensures { result ≡ get_or (get_or memory.now.words word []) bit false }
 {
-    match memory.words.as_slice().get(word) {
-        Some(word) => word.as_slice().get(bit).copied().unwrap_or(false),
-        None => false,
-    }
+    memory.words.word(word).get(bit).copied().unwrap_or(false)
 }

@@ -1,5 +1,6 @@
 // States of a netlist, listed.
 use cs_base::{BitId, Sequence, Text};
+use cs_modules::Words;
 
 /// What registers, clocked reads and memories hold between two clocks.
 #[derive(Drop)]
@@ -19,5 +20,5 @@ pub struct BitValue {
 #[derive(Drop)]
 pub struct MemoryWords {
     pub name: Text,
-    pub words: Sequence<Sequence<bool>>,
+    pub words: Words,
 }

@@ -18,4 +18,5 @@ pub mod RunLemmas
 pub mod Capped
 pub mod Counted
 pub mod Overwritten
+mod MergedWords
 pub mod ClockLemmas

@@ -63,7 +63,7 @@ fn memories(alloc: Global, net: &Netlist) -> Result<Vec<Memory>, AllocError>
 {
     let mut memories = Vec::new(alloc);
     for memory in net.memories() {
-        memories.push(Memory::copy(alloc, memory.words.as_slice())?)?;
+        memories.push(Memory::copy(alloc, &memory.words)?)?;
     }
     Ok(memories)
 }

@@ -1,8 +1,7 @@
-use Rattle.std.proofs.Common.{◌≡◌, ◌+◌, ◌*◌, map}
+use Rattle.std.proofs.Common.{◌≡◌, map}
 use Rattle.cs_modules.specs.Digits.{is_one}
 use Rattle.cs_modules.specs.Pins.{count_from}
 use Rattle.cs_modules.proofs.memories.words_of.Given as goal
 
 abbrev pub invariant-loop-i : goal.invariant-loop-i
-invariant-loop-i l =
-    l.words ≡ map (λ i. map (λ j. is_one l.digits (i * l.width + j)) (count_from 0 l.width)) (count_from 0 l.i)
+invariant-loop-i l = l.bits.items ≡ map (is_one l.digits) (count_from 0 l.i)
