@@ -1,4 +1,5 @@
 mod Examples
+mod RingChoices
 mod WalkExamples
 pub mod BackLemmas
 pub mod RingLemmas

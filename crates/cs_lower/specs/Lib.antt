@@ -1,5 +1,6 @@
 pub mod Taps
 pub mod Registers
+pub mod Driven
 pub mod Cells
 pub mod Wires
 pub mod Rings

@@ -46,6 +46,11 @@ abbrev pub never : Bool → Option Bool → Bool
 never high None = false
 never high (Some bit) = not (is_active high bit)
 
+-- a pin's signal, where a register has what the pin is for; else 0
+abbrev pub signal_for : {A : Type 0} → Option A → Signal → Signal
+signal_for None s = Zero
+signal_for (Some has) s = s
+
 -- ---- multiplexers
 
 -- what comes out of vertices that follow one another, the first of which has the number `first`

@@ -1,17 +1,18 @@
 // The vertices of each cell.
-ghost use Rattle.std.specs.Prelude.{◌≡◌, IfOk, OnOk, length, map};
+ghost use Rattle.std.specs.Prelude.{◌≡◌, IfOk, OnOk, codes, length, map};
 ghost use Rattle.cs_cells.specs.Gates.{pin_count, pin_name};
 ghost use Rattle.cs_modules.specs.Pins.{count_from};
 ghost use Rattle.cs_net.specs.Drivers.{signal_of};
 ghost use Rattle.cs_lower.specs.declared.taps.Tap.TheVariants.{Signal as of_signal};
 ghost use Rattle.cs_lower.specs.Cells.{HasFewReads, cell_parts, gate_parts, gate_piece, memory_parts, register_cell_parts};
+ghost use Rattle.cs_lower.specs.Registers.{signal_for};
 ghost use Rattle.cs_lower.specs.Taps.{both};
 
 use crate::driven::DrivenBits;
 use crate::memories::{MemoryCell, push_memory};
 use crate::registers::{RegisterPins, push_register};
 use crate::taps::{Parts, Piece, Tap, Wire};
-use cs_base::{MemId, Sequence};
+use cs_base::{MemId, Sequence, Signal};
 use cs_cells::{Class, FfKind, Kind, MemShape};
 use cs_graph::VertexKind;
 use cs_net::Cell;
@@ -51,6 +52,26 @@ fn push_gate(alloc: Global, parts: &mut Parts, cell: &Cell, kind: Kind) -> Resul
 
 // ---- registers
 
+// What a register has at E, where it has an enable.
+fn enable_signal(cell: &Cell, kind: FfKind) -> Signal
+    ensures { result ≡ signal_for kind.enable (signal_of cell.now (codes "E")) }
+{
+    match kind.enable {
+        Some(_) => cell.signal("E"),
+        None => Signal::Zero,
+    }
+}
+
+// What a register has at R, where it has a reset.
+fn reset_signal(cell: &Cell, kind: FfKind) -> Signal
+    ensures { result ≡ signal_for kind.reset (signal_of cell.now (codes "R")) }
+{
+    match kind.reset {
+        Some(_) => cell.signal("R"),
+        None => Signal::Zero,
+    }
+}
+
 // Pushes the vertices of a cell that is a register.
 fn push_register_cell(
     alloc: Global,
@@ -66,8 +87,8 @@ fn push_register_cell(
         kind,
         q: cell.signal("Q"),
         start: false,
-        enable: cell.signal("E"),
-        reset: cell.signal("R"),
+        enable: enable_signal(cell, kind),
+        reset: reset_signal(cell, kind),
     };
     push_register(alloc, parts, net, &pins, Tap::Signal(cell.signal("D")))
 }

@@ -1,15 +1,16 @@
 // Which bits of a netlist are driven.
 ghost use Rattle.std.specs.Prelude.{◌≡◌, ◌==◌, ◌∷◌, ◌++◌, [], ℕ, IfOk, OnOk, Some, is_some, map};
 ghost use Rattle.std.specs.List.{list_any};
-ghost use Rattle.cs_net.specs.Drivers.{cell_drives, drivers, memory_drives};
+ghost use Rattle.cs_net.specs.Drivers.{memory_drives};
+ghost use Rattle.cs_lower.specs.Driven.{driven_beside, outputs_beside};
 ghost use Rattle.cs_lower.specs.Registers.{is_driven, still};
 ghost use Rattle.cs_lower.specs.Tables.{held};
 
-use crate::table::{Table, greater, table_size};
+use crate::table::{Table, table_size};
 use cs_base::Signal;
 use cs_cells::{Class, MemShape};
 use cs_modules::numbers_in;
-use cs_net::{Cell, Netlist};
+use cs_net::{BitValue, Cell, Netlist};
 use std::alloc::{AllocError, Global};
 use std::marker::Model;
 
@@ -50,18 +51,18 @@ fn push_signal(signals: &mut Vec<Signal>, signal: Signal) -> Result<(), AllocErr
     Ok(())
 }
 
-// Pushes what a cell drives.
+// Pushes what a cell drives that is no register.
 fn push_outputs(
     signals: &mut Vec<Signal>,
     cell: &Cell,
     shape: &Option<MemShape>,
 ) -> Result<(), AllocError>
     ensures { OnOk result (signals.new.items
-        ≡ signals.old.items ++ map (λ d. d.0) (cell_drives (cell.now, shape.now))) }
+        ≡ signals.old.items ++ outputs_beside cell.now.class (cell.now, shape.now)) }
 {
     match cell.class {
         Class::Gate(_) => push_signal(signals, cell.signal("Y")),
-        Class::Register(_) => push_signal(signals, cell.signal("Q")),
+        Class::Register(_) => Ok(()),
         Class::Memory => push_memory(signals, cell, shape),
         Class::Scope => Ok(()),
         Class::Asynchronous => Ok(()),
@@ -70,9 +71,9 @@ fn push_outputs(
     }
 }
 
-// All signals that are driven: the data inputs, then those of the cells.
+// All signals that are driven by no register: the data inputs, then those of the cells.
 fn driven_signals(alloc: Global, net: &Netlist) -> Result<Vec<Signal>, AllocError>
-    ensures { IfOk result (λ signals. signals.items ≡ map (λ d. d.0) (drivers net.now)) }
+    ensures { IfOk result (λ signals. signals.items ≡ driven_beside net.now) }
 {
     let mut signals = net.data_inputs(alloc)?;
     for (cell, shape) in net.cells().iter().zip(net.shapes()) {
@@ -81,11 +82,21 @@ fn driven_signals(alloc: Global, net: &Netlist) -> Result<Vec<Signal>, AllocErro
     Ok(signals)
 }
 
-// The greatest number of a bit among signals.
-fn greatest_bit(signals: &[Signal]) -> u32 {
+// Pushes the bit Q of each register.
+fn push_registers(numbers: &mut Vec<u32>, starts: &[BitValue]) -> Result<(), AllocError>
+    ensures { OnOk result (numbers.new.items ≡ numbers.old.items ++ map (λ s. s.bit) starts.now) }
+{
+    for start in starts {
+        numbers.push(start.bit.get())?;
+    }
+    Ok(())
+}
+
+// The greatest of some numbers.
+fn greatest_of(numbers: &[u32]) -> u32 {
     let mut greatest = 0;
-    for signal in signals {
-        greatest = greater(greatest, *signal);
+    for number in numbers {
+        greatest = (*number).max(greatest);
     }
     greatest
 }
@@ -105,9 +116,11 @@ fn number_table(alloc: Global, numbers: &[u32], size: usize) -> Result<Table<()>
 fn driven_numbers(alloc: Global, net: &Netlist) -> Result<Table<()>, AllocError>
     ensures { IfOk result (λ table. (b : ℕ) → is_some (held table b) ≡ is_driven net.now b) }
 {
+    net.keeps();
     let signals = driven_signals(alloc, net)?;
-    let numbers = numbers_in(alloc, signals.as_slice())?;
-    let size = table_size(signals.len(), greatest_bit(signals.as_slice()));
+    let mut numbers = numbers_in(alloc, signals.as_slice())?;
+    push_registers(&mut numbers, net.starts())?;
+    let size = table_size(numbers.len(), greatest_of(numbers.as_slice()));
     number_table(alloc, numbers.as_slice(), size)
 }
 

@@ -101,6 +101,9 @@ fn chosen(alloc: Global, numbers: &[u32], set: &IndexSet<u32>) -> Result<Vec<u32
     ensures { IfOk result (λ chosen. chosen.items ≡ filter (contains nat_eq set.now) numbers.now) }
 {
     let mut chosen = Vec::new(alloc);
+    if set.is_empty() {
+        return Ok(chosen);
+    }
     for number in numbers {
         if set.contains(number) {
             chosen.push(*number)?;

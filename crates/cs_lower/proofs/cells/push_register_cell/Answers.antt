@@ -10,6 +10,7 @@ returns c =
     let cell = c.args.cell.now in
     let old = c.args.parts.now in
     on_ok (λ pushed. pushed (from_signal (signal_of cell (codes "D")))
-    ∙ ap (both old) (register_cell_is c.args.net.now (length old.pieces) cell c.args.kind c.signal.result c.signal-2.result
-    c.signal-3.result c.signal-4.result c.signal.ensures c.signal-2.ensures c.signal-3.ensures c.signal-4.ensures))
+    ∙ ap (both old) (register_cell_is c.args.net.now (length old.pieces) cell c.args.kind c.signal.result c.enable_signal.result
+    c.reset_signal.result c.signal-2.result c.signal.ensures c.enable_signal.ensures c.reset_signal.ensures
+    c.signal-2.ensures))
     c.push_register.result c.push_register.ensures
