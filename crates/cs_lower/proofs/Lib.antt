@@ -1,5 +1,6 @@
 mod Examples
 mod RingChoices
+mod PinOrder
 mod WalkExamples
 pub mod BackLemmas
 pub mod RingLemmas

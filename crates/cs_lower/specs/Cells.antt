@@ -1,5 +1,5 @@
 -- The vertices of each cell.
-use Rattle.std.specs.Prelude.{◌≡◌, ℕ, ◌+◌, ◌^◌, ◌<◌, length, List, [], ◌∷◌, ◌++◌, if◌then◌else◌, map, Option, Some, None, codes, get_or, false}
+use Rattle.std.specs.Prelude.{◌≡◌, ℕ, ◌+◌, ◌^◌, ◌<◌, length, List, [], ◌∷◌, ◌++◌, if◌then◌else◌, map, Bool, Option, Some, None, bytes_eq, codes, get_or, false, option_map, unwrap_or}
 use Rattle.std.specs.List.{enumerate_from, zip}
 use Rattle.cs_base.specs.declared.signal.Signal.{Signal}
 use Rattle.cs_base.specs.declared.signal.Signal.TheVariants.{Zero}
@@ -14,6 +14,7 @@ use Rattle.cs_cells.specs.Memories.{read_register}
 use Rattle.cs_graph.specs.declared.vertex.VertexKind.TheVariants.{Gate, Read, Write}
 use Rattle.cs_modules.specs.Pins.{count_from}
 use Rattle.cs_net.specs.declared.netlist.Cell.{Cell}
+use Rattle.cs_net.specs.declared.netlist.PinBits.{PinBits}
 use Rattle.cs_net.specs.Build.{places_from}
 use Rattle.cs_net.specs.Drivers.{bits_of, port_part, read_data, read_element, register_of, signal_of}
 use Rattle.cs_net.specs.Netlist.{Net}
@@ -30,6 +31,15 @@ pub record Placed : Type 0 where
   pub cell : Cell
   pub shape : Option MemShape
   pub memory : ℕ
+
+-- a pin of this name
+abbrev pub named : Option PinBits → List ℕ → Bool
+named None name = false
+named (Some pin) name = bytes_eq pin.name name
+
+-- the first signal of a pin
+abbrev pub first_signal : Option PinBits → Signal
+first_signal pin = get_or (unwrap_or (option_map (λ p. p.bits) pin) []) 0 Zero
 
 -- a gate is one vertex
 abbrev pub gate_piece : Cell → Kind → Piece

@@ -1,10 +1,11 @@
 // The vertices of each cell.
-ghost use Rattle.std.specs.Prelude.{◌≡◌, IfOk, OnOk, codes, length, map};
+ghost use Rattle.std.specs.Prelude.{◌≡◌, ◌&&◌, IfOk, OnOk, bytes_eq, codes, find, length, map, slice_get, true};
+ghost use Rattle.std.specs.Option.{option_copied};
 ghost use Rattle.cs_cells.specs.Gates.{pin_count, pin_name};
 ghost use Rattle.cs_modules.specs.Pins.{count_from};
 ghost use Rattle.cs_net.specs.Drivers.{signal_of};
 ghost use Rattle.cs_lower.specs.declared.taps.Tap.TheVariants.{Signal as of_signal};
-ghost use Rattle.cs_lower.specs.Cells.{HasFewReads, cell_parts, gate_parts, gate_piece, memory_parts, register_cell_parts};
+ghost use Rattle.cs_lower.specs.Cells.{HasFewReads, cell_parts, first_signal, gate_parts, gate_piece, memory_parts, named, register_cell_parts};
 ghost use Rattle.cs_lower.specs.Registers.{signal_for};
 ghost use Rattle.cs_lower.specs.Taps.{both};
 
@@ -15,19 +16,69 @@ use crate::taps::{Parts, Piece, Tap, Wire};
 use cs_base::{MemId, Sequence, Signal};
 use cs_cells::{Class, FfKind, Kind, MemShape};
 use cs_graph::VertexKind;
-use cs_net::Cell;
+use cs_net::{Cell, PinBits};
 use std::alloc::{AllocError, Global};
 
 // ---- gates
 
-// What the input pins of a gate are connected to.
+// The pin at a place.
+fn pin_at(cell: &Cell, place: usize) -> Option<&PinBits>
+    ensures { option_copied result ≡ slice_get cell.now.pins place }
+{
+    cell.pins.as_slice().get(place)
+}
+
+// Whether the pin at a place has this name.
+fn is_named(cell: &Cell, place: usize, name: &str) -> bool
+    ensures { result ≡ named (slice_get cell.now.pins place) name.now }
+{
+    match pin_at(cell, place) {
+        Some(pin) => pin.name.as_str() == name,
+        None => false,
+    }
+}
+
+// Whether the pins are in order up to this place, which is to have this name, where they are before it.
+fn in_order_to(cell: &Cell, place: usize, name: &str, before: bool) -> bool
+    ensures { result ≡ before && named (slice_get cell.now.pins place) name.now }
+{
+    before && is_named(cell, place, name)
+}
+
+// The first signal of the pin at a place.
+fn signal_at(cell: &Cell, place: usize) -> Signal
+    ensures { result ≡ first_signal (slice_get cell.now.pins place) }
+{
+    match pin_at(cell, place) {
+        Some(pin) => pin.bits.as_slice().first().copied().unwrap_or(Signal::Zero),
+        None => Signal::Zero,
+    }
+}
+
+// The signal of the pin of a name, which is the pin at this place where the pins up to there are in order.
+fn signal_near(cell: &Cell, place: usize, name: &str, in_order: bool) -> Signal
+    requires { in_order ≡ true → find (λ p. bytes_eq p.name name.now) cell.now.pins ≡ slice_get cell.now.pins place }
+    ensures { result ≡ signal_of cell.now name.now }
+{
+    if in_order {
+        signal_at(cell, place)
+    } else {
+        cell.signal(name)
+    }
+}
+
+// What the input pins of a gate are connected to. Their names are mostly the first of the cell's, in the same order, so
+// that none has to be looked for.
 fn gate_pins(alloc: Global, cell: &Cell, kind: Kind) -> Result<Sequence<Tap>, AllocError>
     ensures { IfOk result (λ pins. pins
         ≡ map (λ i. of_signal (signal_of cell.now (pin_name kind i))) (count_from 0 (pin_count kind))) }
 {
     let mut pins = Sequence::new(alloc);
+    let mut in_order = true;
     for i in 0..kind.pin_count() {
-        pins.push(Tap::Signal(cell.signal(kind.pin_name(i))))?;
+        let name = kind.pin_name(i);
+        in_order = in_order_to(cell, i, name, in_order);
+        pins.push(Tap::Signal(signal_near(cell, i, name, in_order)))?;
     }
     Ok(pins)
 }
