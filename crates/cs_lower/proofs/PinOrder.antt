@@ -83,8 +83,8 @@ pub one_more_named : (pins : List PinBits) (name : ℕ → List ℕ) (i : ℕ) �
 one_more_named pins name i are here j below = elim (cases_lt j i) [
   | inl before ↦ are j before
   | inr past ↦
-    let same : j ≡ i = omega (arith, below, past) in
-    subst (λ k. named (slice_get pins k) (name k) ≡ true) (sym same) here
+      let same : j ≡ i = omega (arith, below, past) in
+      subst (λ k. named (slice_get pins k) (name k) ≡ true) (sym same) here
 ]
 
 -- where the pins are in order up to place i, they are up to the next, and its pin is the first of its name
